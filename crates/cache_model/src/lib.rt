@@ -1,0 +1,18 @@
+//! What the whole store speaks of: its types, its limits and, in `specs/`, the definitions that every contract cites.
+#![tactic(auto)]
+
+mod commands;
+mod entries;
+mod faults;
+mod files;
+mod keys;
+mod replies;
+mod settings;
+
+pub use commands::{Command, StepKind};
+pub use entries::{Change, Entry, Lifespan, Until};
+pub use faults::{BadKind, Damage, ModelFault, Spent, StoreFault};
+pub use files::{FileKind, FileName, Place};
+pub use keys::{Key, Prefix, Value};
+pub use replies::{Figures, KeyList, Reply, Status, Turned};
+pub use settings::{Activation, Mode, Settings};
