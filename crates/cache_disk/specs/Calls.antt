@@ -1,10 +1,14 @@
 -- What each call of a host does.
-use Rattle.std.specs.Prelude.{◌≡◌, ℕ, ◌+◌, ◌-◌, ◌<◌, ◌≤◌, ◌⊎◌, ◌↔◌, min, max, false, List, [], ◌++◌, take, drop, length, Option, Some, None, Result, option_map, IfOk, OnOk, OnErr, IsErrOf, IsSome, Contains, Vec}
+use Rattle.std.specs.Prelude.{◌≡◌, ℕ, ◌+◌, ◌-◌, ◌<◌, ◌≤◌, ◌⊎◌, ◌↔◌, min, max, List, [], ◌++◌, take, drop, length, Option, Some, None, Result, option_map, IfOk, OnOk, OnErr, IsErrOf, IsSome, Contains, Vec}
 use Rattle.std.specs.List.{IsDistinct}
 use Rattle.std.specs.declared.alloc.Global.{Global}
 use Rattle.cache_model.specs.declared.files.FileName.{FileName}
-use Rattle.cache_model.specs.Files.{Image, file_in, bytes_in, is_name, IsFileName}
+use Rattle.cache_model.specs.Files.{Image, file_in, bytes_in, is_name}
 use Rattle.cache_disk.specs.State.{HostState, Rose, SameFiles, SameBut, GoesOn, Moves, Stands, Asks}
+use Rattle.cache_model.specs.declared.faults.StoreFault.{StoreFault}
+use Rattle.cache_model.specs.declared.faults.StoreFault.TheVariants as fault
+use Rattle.cache_model.specs.declared.faults.Spent.{Spent}
+use Rattle.cache_model.specs.declared.faults.Damage.{Damage}
 use Rattle.cache_disk.specs.declared.host.HostFault.{HostFault}
 use Rattle.cache_disk.specs.declared.host.HostFault.TheVariants.{Failed, Memory}
 
@@ -150,3 +154,24 @@ pub record Said (bytes : List ℕ) (old new : HostState) (result : Result (Unit 
   pub ok : OnOk result (TakesTurn old new Stays 0 (and_then_said (old.said old.turn) bytes) result)
   pub failed : OnErr result (TakesTurn old new Stays 0 None result)
   pub files : SameFiles old.files new.files
+
+-- For a call of a layer over the host: `Failed` comes only where the disk's count rose, no other answer raises it, and
+-- the count of says stays.
+pub record HasStoreCause {T : Type 0} (old new : HostState) (result : Result T StoreFault) : Type 0 where
+  pub failed : IsErrOf result fault.Failed → Rose old.disk_faults new.disk_faults
+  pub ok : OnOk result (new.disk_faults ≡ old.disk_faults)
+  pub memory : IsErrOf result fault.Memory → new.disk_faults ≡ old.disk_faults
+  pub spent : (s : Spent) → IsErrOf result (fault.Spent s) → new.disk_faults ≡ old.disk_faults
+  pub damaged : (d : Damage) → IsErrOf result (fault.Damaged d) → new.disk_faults ≡ old.disk_faults
+  pub later : old.disk_faults ≤ new.disk_faults
+  pub says : new.say_faults ≡ old.say_faults
+
+-- Other files stay as they are, and this one stays, where it was there, and has a property, where it is there.
+pub record OnFile (name : FileName) (has : List ℕ → Type 0) (old new : Image) : Type 0 where
+  pub others : SameBut name old new
+  pub stays : IsSome (file_in old name) → IsSome (file_in new name)
+  pub file : (bytes : List ℕ) → file_in new name ≡ Some bytes → has bytes
+
+-- a property holds of every image that a crash may leave now
+abbrev pub AllLeft : HostState → (Image → Type 0) → Type 0
+AllLeft state has = (c : Image) → state.left state.turn c → has c

@@ -1,6 +1,5 @@
 -- What a call of a source of input does.
-use Rattle.std.specs.Prelude.{◌≡◌, ℕ, ◌<◌, ◌≤◌, List, [], ◌++◌, take, drop, length, Result, IfOk, OnOk, OnErr, IsErrOf}
-use Rattle.cache_model.specs.declared.files.FileName.{FileName}
+use Rattle.std.specs.Prelude.{◌≡◌, ℕ, ◌<◌, ◌≤◌, List, ◌++◌, take, drop, length, Result, IfOk, OnOk, OnErr, IsErrOf}
 use Rattle.cache_disk.specs.State.{Rose}
 use Rattle.cache_disk.specs.declared.source.SourceFault.{SourceFault}
 use Rattle.cache_disk.specs.declared.source.SourceFault.TheVariants.{Failed}

@@ -1,5 +1,5 @@
 -- Names of files, and what a directory holds.
-use Rattle.std.specs.Prelude.{◌≡◌, ℕ, ◌≤◌, ◌<◌, ◌==◌, ◌&&◌, ◌||◌, Bool, List, Option, length, unwrap_or, [], IsTrue}
+use Rattle.std.specs.Prelude.{◌≡◌, ℕ, ◌≤◌, ◌==◌, ◌&&◌, Bool, List, Option, unwrap_or, []}
 use Rattle.std.specs.Map.{lookup}
 use Rattle.cache_model.specs.declared.files.FileKind.{FileKind}
 use Rattle.cache_model.specs.declared.files.FileKind.TheVariants.{Rules, Log, Tree, Base}

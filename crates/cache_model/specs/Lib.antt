@@ -1,2 +1,4 @@
+pub mod DataFiles
 pub mod Files
+pub mod Items
 pub mod Limits
