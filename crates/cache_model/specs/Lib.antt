@@ -1,4 +1,9 @@
+pub mod Changes
 pub mod DataFiles
 pub mod Files
 pub mod Items
 pub mod Limits
+pub mod Lines
+pub mod Plain
+pub mod Replies
+pub mod Transcript

@@ -1,0 +1,48 @@
+-- The lines of a script, and the command of each.
+use Rattle.std.specs.Prelude.{ℕ, ◌+◌, ◌/◌, ◌==◌, ◌&&◌, not, Bool, List, [], ◌∷◌, length, Option, Some, None, if◌then◌else◌, nat_le, codes, sum_by}
+use Rattle.std.specs.List.{list_all}
+use Rattle.std.specs.Str.{bytes_eq}
+use Rattle.cache_model.specs.declared.entries.Lifespan.TheVariants.{Endless}
+use Rattle.cache_model.specs.declared.commands.Command.{Command}
+use Rattle.cache_model.specs.declared.commands.Command.TheVariants.{Put}
+
+-- a byte in front of the first of these pieces
+abbrev pub with_first : ℕ → List (List ℕ) → List (List ℕ)
+with_first byte [] = (byte ∷ []) ∷ []
+with_first byte (piece ∷ pieces) = (byte ∷ piece) ∷ pieces
+
+-- the lines of an input: it is cut at each line feed, and a last line without one counts where it has a byte
+abbrev pub lines_of : List ℕ → List (List ℕ)
+lines_of [] = []
+lines_of (byte ∷ rest) = if byte == 10 then [] ∷ lines_of rest else with_first byte (lines_of rest)
+
+-- the words of a line: it is cut at each space, so that two spaces have an empty word between them
+abbrev pub words_of : List ℕ → List (List ℕ)
+words_of [] = [] ∷ []
+words_of (byte ∷ rest) = if byte == 32 then [] ∷ words_of rest else with_first byte (words_of rest)
+
+-- a byte that stands for itself: printable, no space and no percent sign
+abbrev pub is_plain_byte : ℕ → Bool
+is_plain_byte byte = nat_le 33 byte && nat_le byte 126 && not (byte == 37)
+
+-- a word that stands for one to so many bytes
+abbrev pub is_token : ℕ → List ℕ → Bool
+is_token most word = nat_le 1 (length word) && nat_le (length word) most && list_all is_plain_byte word
+
+-- the command of a line with these words, where there is one
+abbrev pub command_of_words : List (List ℕ) → Option Command
+command_of_words (name ∷ key ∷ value ∷ []) =
+    if bytes_eq name (codes "put") && is_token 1024 key && is_token 65536 value then Some (Put key value Endless) else None
+command_of_words words = None
+
+-- the command of a line, where there is one: `put K V`
+abbrev pub command_of : List ℕ → Option Command
+command_of line = command_of_words (words_of line)
+
+-- How many units of input a line of so many bytes takes, its end aside: one for each 1,048,577 bytes.
+abbrev pub units_of_length : ℕ → ℕ
+units_of_length n = n / 1048577
+
+-- how many units lines take, their ends included
+abbrev pub units_of : List (List ℕ) → ℕ
+units_of lines = sum_by (λ line. 1 + units_of_length (length line)) lines
