@@ -9,6 +9,8 @@ mod keys;
 mod plain;
 mod replies;
 mod settings;
+#[cfg(test)]
+mod tests;
 
 pub use commands::{Command, StepKind};
 pub use entries::{Change, Entry, Lifespan, Until};
