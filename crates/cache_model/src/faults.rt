@@ -25,13 +25,14 @@ pub enum BadKind {
     Order,
     /// The first gate of a base file, which isn't open.
     Gate(u8),
-    /// A block of the index that isn't whole, or isn't of the kind that is asked for.
+    /// A block of the index that isn't whole, or isn't of the kind that is asked for, or an index whose figures would
+    /// leave their range.
     Node,
     /// An item that begins at 2^32 or above, or a record that isn't the one that was looked for.
     Place,
 }
 
-/// The first place in a file whose bytes are not in the grammar.
+/// A damaged place of a file, and what is wrong there.
 #[derive(Clone, Copy, Debug, PartialEq, Eq)]
 pub struct Damage {
     pub file: FileName,

@@ -1,5 +1,4 @@
 // The files of a directory, and places in them.
-ghost use Rattle.std.specs.Prelude.{◌≡◌, ◌↔◌, IsTrue};
 
 /// What a file is for.
 #[derive(Clone, Copy, Debug, PartialEq, Eq)]

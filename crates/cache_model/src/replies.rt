@@ -78,18 +78,25 @@ impl KeyList {
 #[derive(Debug, Drop)]
 pub enum Reply {
     Done,
+    /// The key is visible, and stays as it was.
     Kept,
+    /// The key isn't visible.
     Nothing,
+    /// The key is visible with another value than the wanted one.
     Differs,
     Found(Value),
     Yes,
     No,
+    /// How many keys are visible.
     Size(u64),
+    /// The visible keys, in the order of their bytes.
     Keys(KeyList),
+    /// How many keys were removed.
     Cleared(u64),
     Turned(Turned),
     Compacted,
     Stats(Figures),
+    /// How many entries were exported.
     Exported(u64),
     /// The moment that was asked for is past; this is the session's.
     Past(u64),
