@@ -85,7 +85,7 @@ until-fits : (until : Until) → IsUntil until → until_number until < 2 ^ 64
 until-fits Never fits = omega arith
 until-fits (At moment) fits = omega arith
 
-below-test : (limit n : ℕ) → n < limit → nat_le limit n ≡ false
+pub below-test : (limit n : ℕ) → n < limit → nat_le limit n ≡ false
 below-test limit n h = grind (arith, nat_tests)
 
 front-put-spelling : (seq : ℕ) (until : Until) (key value : List ℕ) → IsItem (put seq until key value) → (rest : List ℕ)
