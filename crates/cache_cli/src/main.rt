@@ -2,5 +2,6 @@
 #![tactic(auto)]
 
 mod line;
+mod line_reader;
 
 fn main() {}

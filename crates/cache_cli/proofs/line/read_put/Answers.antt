@@ -1,4 +1,4 @@
-use Rattle.std.proofs.Common.{◌≡◌, refl}
+use Rattle.std.proofs.Common.{refl}
 use Rattle.cache_model.proofs.Cut.{cut_at-first}
 use Rattle.cache_cli.proofs.line.read_put.Goals as goal
 
