@@ -1,14 +1,14 @@
 -- The bytes of data files in the making: what stands behind the closed gate, and what is counted there.
-use Rattle.std.proofs.Common.{◌≡◌, ◌≢◌, ◌⊎◌, inl, inr, ⊎_elim, ℕ, zero, suc, ◌+◌, ◌-◌, ◌^◌, ◌<◌, ◌≤◌, Bool, true, false, List, [], ◌∷◌, ◌++◌, length, take, drop, refl, sym, ◌∙◌, ap, subst, arith, append_assoc, length-append}
+use Rattle.std.proofs.Common.{◌≡◌, ◌≢◌, ◌⊎◌, inl, inr, ⊎_elim, ℕ, zero, suc, ◌+◌, ◌-◌, ◌^◌, ◌<◌, ◌≤◌, Bool, true, false, List, [], ◌∷◌, ◌++◌, length, take, drop, refl, sym, ◌∙◌, ap, subst, arith, append_assoc, length-append, if◌then◌else◌}
 use Rattle.std.specs.Prelude.{All, flat_map, get_or}
 use Rattle.std.proofs.lemmas.List.{append-nil, take_at, drop_at, take_all, drop_all, take-append-le, take-append-drop, take-take, drop_more}
 use Rattle.std.proofs.lemmas.Bool.{cases_eq}
-use Rattle.cache_model.specs.Items.{Item, IsItem, IsRecord, end, spelling}
+use Rattle.cache_model.specs.Items.{Item, put, removal, end, IsItem, IsRecord, spelling}
 use Rattle.cache_model.specs.DataFiles.{Frame, items_of, IsFrameAt, frame_spelling, AreFrames, file_spelling, CountsFrames, placed_items, placed_frames}
 use Rattle.cache_model.proofs.Grammar.{open_spelling, lead_of, next_at, file-open, open-more, are-more, placed-more, counts-closed, frame-spelling, length-frame}
-use Rattle.cache_model.proofs.Spelled.{length-spelling, spelling-some}
+use Rattle.cache_model.proofs.Spelled.{size_of, length-spelling, spelling-some}
 use Rattle.cache_disk.specs.Calls.{Torn, overwritten}
-use Rattle.data_file.specs.Appending.{unsealed, written, frame_start, next_place, is_versioned, StartsWith, sealed, CountsOneOf}
+use Rattle.data_file.specs.Appending.{IsRecordSpelling, unsealed, written, frame_start, next_place, is_versioned, ending, StartsWith, sealed, CountsOneOf}
 
 -- spellings of lists of items
 
@@ -19,6 +19,15 @@ spellings-append (item ∷ items) other =
 
 pub spellings-push : (items : List Item) (item : Item) → flat_map spelling (items ++ item ∷ []) ≡ flat_map spelling items ++ spelling item
 spellings-push items item = spellings-append items (item ∷ []) ∙ ap (λ (l : List ℕ). flat_map spelling items ++ l) (append-nil (spelling item))
+
+-- a record has far fewer than 2^32 bytes
+pub record-short : (bytes : List ℕ) → IsRecordSpelling bytes → length bytes < 2 ^ 32
+record-short bytes spelled = omega (arith, ap length spelled.2, length-spelling spelled.0, short spelled.0 spelled.1)
+  where
+    short : (item : Item) → IsRecord item → size_of item < 2 ^ 32
+    short (put seq until key value) is = omega arith
+    short (removal seq key) is = omega arith
+    short (end moment) is = absurd is
 
 -- places
 
@@ -175,3 +184,45 @@ module _ (frames : List Frame) (frame : Frame) (gate : ℕ) (at_gate : gate + 1 
         (subst (CountsFrames (frames ++ frame ∷ [])) (sym opened-is) (counts-start (frames ++ frame ∷ []) (file_spelling (frames ++ frame ∷ [])) are_more (take_all _ _ (omega arith)))))
         | inr shut ↦ inl (counts-closed frames now ((lead_of frames ++ frame_spelling frame) ++ 0 ∷ []) are shut)
       ])
+
+-- how the end is written
+
+pub length-ending : (versioned : Bool) (moment : ℕ) → length (ending versioned moment) ≡ (if versioned then 0 else 1) + 10
+length-ending true moment = omega (arith, length-append (spelling (end moment)) (0 ∷ []), length-spelling (end moment))
+length-ending false moment = omega (arith, length-append (spelling (end moment)) (0 ∷ []), length-spelling (end moment))
+
+ending-due : (frames : List Frame) (records : List Item) (moment : ℕ) → ending (is_versioned frames records) moment ≡ due_version frames records ++ (spelling (end moment) ++ 0 ∷ [])
+ending-due [] [] moment = refl
+ending-due [] (item ∷ items) moment = refl
+ending-due (frame ∷ frames) records moment = refl
+
+pub length-due : (frames : List Frame) (records : List Item) → length (due_version frames records) ≡ (if is_versioned frames records then 0 else 1)
+length-due [] [] = refl
+length-due [] (item ∷ items) = refl
+length-due (frame ∷ frames) records = refl
+
+-- behind the file stands a whole frame once its end is written
+pub written-ending : (frames : List Frame) (records : List Item) (moment : ℕ)
+    → written frames records ++ ending (is_versioned frames records) moment ≡ file_spelling frames ++ ((lead_of frames ++ frame_spelling (record { records = records; moment = moment })) ++ 0 ∷ [])
+written-ending frames records moment =
+    let tail : List ℕ = spelling (end moment) ++ 0 ∷ [] in
+    ap (λ (l : List ℕ). written frames records ++ l) (ending-due frames records moment)
+    ∙ append_assoc (file_spelling frames) (unsealed frames records) (due_version frames records ++ tail)
+    ∙ ap (λ (l : List ℕ). file_spelling frames ++ l) (sym (append_assoc (unsealed frames records) (due_version frames records) tail) ∙ unsealed-end frames records moment)
+
+-- the end begins below 2^32 where the file is that short
+pub next_place-below : (frames : List Frame) (records : List Item) → length (written frames records) < 2 ^ 32 → next_place frames records < 2 ^ 32
+next_place-below [] [] below = omega arith
+next_place-below [] (item ∷ items) below = omega (arith, next_place-is [] (item ∷ items), length-append (written [] (item ∷ items)) [])
+next_place-below (frame ∷ frames) records below = omega (arith, next_place-is (frame ∷ frames) records, length-append (written (frame ∷ frames) records) [])
+
+-- with no record unsealed the file is at rest
+pub written-none : (frames : List Frame) → written frames [] ≡ file_spelling frames
+written-none [] = refl
+written-none (frame ∷ frames) = append-nil (file_spelling (frame ∷ frames))
+
+pub length-staged : (frames : List Frame) (frame : Frame) → length (file_spelling frames ++ ((lead_of frames ++ frame_spelling frame) ++ 0 ∷ [])) ≡ length (file_spelling (frames ++ frame ∷ []))
+length-staged frames frame =
+    let body : List ℕ = lead_of frames ++ frame_spelling frame in
+    let more : length (open_spelling (frames ++ frame ∷ [])) ≡ length (open_spelling frames) + 1 + length body = ap length (open-more frames frame) ∙ length-append (open_spelling frames) (1 ∷ body) ∙ omega arith in
+    omega (arith, more, length-file frames, length-file (frames ++ frame ∷ []), length-append (file_spelling frames) (body ++ 0 ∷ []), length-append body (0 ∷ []))

@@ -1,2 +1,4 @@
 pub mod Bytes
+pub mod Sealing
+pub mod Standing
 pub mod Steps

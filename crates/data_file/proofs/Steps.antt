@@ -11,7 +11,7 @@ use Rattle.cache_disk.proofs.Runs.{OnFile-files, HasFile-bytes, HasFile-files, H
 use Rattle.data_file.specs.Appending.{StartsWith}
 use Rattle.data_file.proofs.Bytes.{torn-starts, counts-short}
 
-abbrev Answer : Type 0
+abbrev pub Answer : Type 0
 Answer = Result (Unit {0}) HostFault
 
 -- where the image has the file, it has the property

@@ -1,8 +1,8 @@
 -- What an appender stands for: the frames that are sealed in its file, and the records written behind them.
-use Rattle.std.specs.Prelude.{◌≡◌, ◌⊎◌, ℕ, ◌+◌, Bool, true, false, List, [], ◌∷◌, ◌++◌, length, take, flat_map, All, Some, IsTrue, Result}
+use Rattle.std.specs.Prelude.{◌≡◌, ◌⊎◌, ℕ, ◌+◌, Bool, true, false, List, [], ◌∷◌, ◌++◌, length, take, flat_map, All, Some, if◌then◌else◌}
 use Rattle.cache_model.specs.declared.files.FileName.{FileName}
 use Rattle.cache_model.specs.Files.{Image, file_in}
-use Rattle.cache_model.specs.Items.{Item, IsRecord, spelling}
+use Rattle.cache_model.specs.Items.{Item, end, IsRecord, spelling}
 use Rattle.cache_model.specs.DataFiles.{Frame, file_spelling, AreFrames, CountsFrames}
 use Rattle.cache_disk.specs.State.{HostState}
 use Rattle.cache_disk.specs.Calls.{AllLeft, HasFile}
@@ -19,6 +19,10 @@ size_of appender = appender.size
 -- it may be used no more
 abbrev pub is_spoilt : Appender → Bool
 is_spoilt appender = appender.spoilt
+
+-- how many bytes are due before the next item: the version byte, where it isn't in the file yet
+abbrev pub due_bytes : Appender → ℕ
+due_bytes appender = if appender.versioned then 0 else 1
 
 -- the spelling of one record
 abbrev pub IsRecordSpelling : List ℕ → Type 0
@@ -49,6 +53,11 @@ abbrev pub is_versioned : List Frame → List Item → Bool
 is_versioned [] [] = false
 is_versioned [] (item ∷ items) = true
 is_versioned (frame ∷ frames) items = true
+
+-- what ends a frame: its end and the next gate, which is closed; in an empty first frame the version byte before them
+abbrev pub ending : Bool → ℕ → List ℕ
+ending true moment = spelling (end moment) ++ 0 ∷ []
+ending false moment = 1 ∷ (spelling (end moment) ++ 0 ∷ [])
 
 -- the bytes begin with these
 abbrev pub StartsWith : List ℕ → List ℕ → Type 0
