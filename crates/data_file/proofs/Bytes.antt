@@ -1,12 +1,12 @@
 -- The bytes of data files in the making: what stands behind the closed gate, and what is counted there.
-use Rattle.std.proofs.Common.{◌≡◌, ◌≢◌, ◌⊎◌, inl, inr, ⊎_elim, ℕ, zero, suc, ◌+◌, ◌-◌, ◌^◌, ◌<◌, ◌≤◌, Bool, true, false, List, [], ◌∷◌, ◌++◌, length, take, drop, refl, sym, ◌∙◌, ap, subst, arith, append_assoc, length-append, if◌then◌else◌}
+use Rattle.std.proofs.Common.{◌≡◌, inl, inr, ℕ, ◌+◌, ◌^◌, ◌<◌, ◌≤◌, Bool, true, false, List, [], ◌∷◌, ◌++◌, length, take, drop, refl, sym, ◌∙◌, ap, subst, arith, append_assoc, length-append, if◌then◌else◌}
 use Rattle.std.specs.Prelude.{All, flat_map, get_or}
-use Rattle.std.proofs.lemmas.List.{append-nil, take_at, drop_at, take_all, drop_all, take-append-le, take-append-drop, take-take, drop_more}
+use Rattle.std.proofs.lemmas.List.{append-nil, take_at, drop_at, take_all, drop_all, take-append-drop, take-take, drop_more}
 use Rattle.std.proofs.lemmas.Bool.{cases_eq}
-use Rattle.cache_model.specs.Items.{Item, put, removal, end, IsItem, IsRecord, spelling}
-use Rattle.cache_model.specs.DataFiles.{Frame, items_of, IsFrameAt, frame_spelling, AreFrames, file_spelling, CountsFrames, placed_items, placed_frames}
-use Rattle.cache_model.proofs.Grammar.{open_spelling, lead_of, next_at, file-open, open-more, are-more, placed-more, counts-closed, frame-spelling, length-frame}
-use Rattle.cache_model.proofs.Spelled.{size_of, length-spelling, spelling-some}
+use Rattle.cache_model.specs.Items.{Item, put, removal, end, IsRecord, spelling}
+use Rattle.cache_model.specs.DataFiles.{Frame, frame_spelling, AreFrames, file_spelling, CountsFrames}
+use Rattle.cache_model.proofs.Grammar.{open_spelling, lead_of, next_at, file-open, open-more, are-more, counts-closed, frame-spelling}
+use Rattle.cache_model.proofs.Spelled.{size_of, length-spelling}
 use Rattle.cache_disk.specs.Calls.{Torn, overwritten}
 use Rattle.data_file.specs.Appending.{IsRecordSpelling, unsealed, written, frame_start, next_place, is_versioned, ending, StartsWith, sealed, CountsOneOf}
 
@@ -181,7 +181,7 @@ module _ (frames : List Frame) (frame : Frame) (gate : ℕ) (at_gate : gate + 1 
       sym (take-append-drop gate bytes) ∙ ap (λ (l : List ℕ). l ++ drop gate bytes) (torn.before ∙ front) ∙ ap (λ (l : List ℕ). open_spelling frames ++ l) rest in
       subst (CountsOneOf frames (frames ++ frame ∷ [])) (sym whole) (elim (cases_eq now 1) [
         | inl is_open ↦ inr (subst (λ g. CountsFrames (frames ++ frame ∷ []) (open_spelling frames ++ g ∷ ((lead_of frames ++ frame_spelling frame) ++ 0 ∷ []))) (sym is_open)
-        (subst (CountsFrames (frames ++ frame ∷ [])) (sym opened-is) (counts-start (frames ++ frame ∷ []) (file_spelling (frames ++ frame ∷ [])) are_more (take_all _ _ (omega arith)))))
+            (subst (CountsFrames (frames ++ frame ∷ [])) (sym opened-is) (counts-start (frames ++ frame ∷ []) (file_spelling (frames ++ frame ∷ [])) are_more (take_all _ _ (omega arith)))))
         | inr shut ↦ inl (counts-closed frames now ((lead_of frames ++ frame_spelling frame) ++ 0 ∷ []) are shut)
       ])
 

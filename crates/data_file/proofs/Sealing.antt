@@ -1,20 +1,19 @@
 -- The sealing of a frame, call by call: the end is written and synced, and then its gate is opened and synced.
-use Rattle.std.proofs.Common.{◌≡◌, ◌⊎◌, inl, inr, ℕ, ◌+◌, ◌-◌, ◌^◌, ◌<◌, ◌≤◌, Bool, true, false, List, [], ◌∷◌, ◌++◌, length, take, Option, Some, None, IsSome, Result, Ok, refl, sym, ◌∙◌, ap, subst, arith, append_assoc, length-append}
+use Rattle.std.proofs.Common.{◌≡◌, inl, ℕ, ◌+◌, ◌^◌, ◌<◌, Bool, true, List, [], ◌∷◌, ◌++◌, length, Some, Ok, refl, sym, ◌∙◌, ap, subst, arith, length-append}
 use Rattle.std.proofs.lemmas.List.{take_all, take_at}
-use Rattle.std.specs.Prelude.{All}
 use Rattle.cache_model.specs.declared.files.FileName.{FileName}
-use Rattle.cache_model.specs.Files.{Image, file_in, bytes_in}
-use Rattle.cache_model.specs.Items.{Item, IsRecord, spelling}
-use Rattle.cache_model.specs.DataFiles.{Frame, frame_spelling, AreFrames, file_spelling, CountsFrames}
+use Rattle.cache_model.specs.Files.{file_in}
+use Rattle.cache_model.specs.Items.{Item}
+use Rattle.cache_model.specs.DataFiles.{Frame, frame_spelling, AreFrames, file_spelling}
 use Rattle.cache_model.proofs.Grammar.{lead_of}
-use Rattle.cache_disk.specs.State.{HostState, SameFiles, Moves}
+use Rattle.cache_disk.specs.State.{HostState, Moves}
 use Rattle.cache_disk.specs.Calls.{OnFile, AllLeft, HasFile, Torn, overwritten, Wrote, Synced}
-use Rattle.cache_disk.proofs.Runs.{HasFile-weaker, weaker_on_file, left_on_file, left_weaker, first_on_file}
+use Rattle.cache_disk.proofs.Runs.{weaker_on_file, left_on_file, left_weaker, first_on_file}
 use Rattle.data_file.specs.declared.appender.Appender.{Appender}
-use Rattle.data_file.specs.Appending.{written, next_place, is_versioned, ending, StartsWith, StandsFor, sealed, CountsOneOf}
-use Rattle.data_file.proofs.Bytes.{staged, versioned-sealed, written-ending, written-none, length-staged, length-ending, next_place-below, AreFrames-sealed, counts-start, gate-written, gate-torn}
-use Rattle.data_file.proofs.Steps.{Answer, Only, left_only, left_bytes, write_goes_on, sync_goes_on, settled_now, behind_synced, tears_on_file}
-use Rattle.data_file.proofs.Standing.{bytes_in-some, file-behind, front-within, first-behind}
+use Rattle.data_file.specs.Appending.{written, ending, StartsWith, StandsFor, sealed, CountsOneOf}
+use Rattle.data_file.proofs.Bytes.{staged, versioned-sealed, written-ending, written-none, length-staged, next_place-below, AreFrames-sealed, counts-start, gate-written, gate-torn}
+use Rattle.data_file.proofs.Steps.{Answer, left_only, left_bytes, write_goes_on, sync_goes_on, settled_now, behind_synced, tears_on_file}
+use Rattle.data_file.proofs.Standing.{bytes_in-some, file-behind, first-behind}
 
 -- The state when the gate is to be opened: the run so far, and one and the same file in every image and as it reads.
 pub record UpToGate (name : FileName) (a c : HostState) (frames more : List Frame) (bytes : List ℕ) : Type 0 where

@@ -1,20 +1,19 @@
 -- What stands after the writes of an appender, and what they leave in every image meanwhile.
-use Rattle.std.proofs.Common.{◌≡◌, ◌⊎◌, inl, inr, ℕ, ◌+◌, ◌-◌, ◌^◌, ◌<◌, ◌≤◌, Bool, true, false, List, [], ◌∷◌, ◌++◌, length, take, Option, Some, None, IsSome, Result, Ok, refl, sym, ◌∙◌, ap, subst, arith, append_assoc, length-append, if◌then◌else◌}
-use Rattle.std.proofs.lemmas.List.{take_all, append-nil}
+use Rattle.std.proofs.Common.{◌≡◌, ℕ, ◌+◌, ◌≤◌, Bool, true, false, List, [], ◌∷◌, ◌++◌, length, Option, Some, Ok, sym, ◌∙◌, ap, subst, arith, length-append, if◌then◌else◌}
+use Rattle.std.proofs.lemmas.List.{append-nil}
 use Rattle.std.proofs.lemmas.List.Elements.{All-push}
-use Rattle.std.specs.Prelude.{All, flat_map, unwrap_or}
+use Rattle.std.specs.Prelude.{unwrap_or}
 use Rattle.cache_model.specs.declared.files.FileName.{FileName}
 use Rattle.cache_model.specs.Files.{Image, file_in, bytes_in}
 use Rattle.cache_model.specs.Items.{Item, IsRecord, spelling}
-use Rattle.cache_model.specs.DataFiles.{Frame, frame_spelling, AreFrames, file_spelling, CountsFrames}
-use Rattle.cache_model.proofs.Grammar.{lead_of}
-use Rattle.cache_disk.specs.State.{HostState, SameFiles, Moves}
-use Rattle.cache_disk.specs.Calls.{OnFile, AllLeft, HasFile, Torn, overwritten, Wrote, Synced}
-use Rattle.cache_disk.proofs.Runs.{started, weaker_on_file, left_on_file, first_on_file}
+use Rattle.cache_model.specs.DataFiles.{Frame, file_spelling, CountsFrames}
+use Rattle.cache_disk.specs.State.{HostState, Moves}
+use Rattle.cache_disk.specs.Calls.{OnFile, AllLeft, HasFile, overwritten, Wrote}
+use Rattle.cache_disk.proofs.Runs.{started, weaker_on_file, left_on_file}
 use Rattle.data_file.specs.declared.appender.Appender.{Appender}
-use Rattle.data_file.specs.Appending.{unsealed, written, next_place, is_versioned, ending, due_bytes, StartsWith, StandsFor, sealed, CountsOneOf}
-use Rattle.data_file.proofs.Bytes.{due_version, due-versioned, due-first, versioned-push, versioned-sealed, written-push, written-behind, written-ending, written-none, length-staged, length-due, length-ending, next_place-is, next_place-below, AreFrames-sealed, counts-start, gate-written, gate-torn}
-use Rattle.data_file.proofs.Steps.{Answer, Only, left_only, left_bytes, write_goes_on, sync_goes_on, settled_now, behind_goes_on, behind_synced}
+use Rattle.data_file.specs.Appending.{unsealed, written, next_place, due_bytes, StartsWith, StandsFor}
+use Rattle.data_file.proofs.Bytes.{due_version, due-versioned, due-first, versioned-push, written-push, written-behind, length-due, next_place-is, counts-start}
+use Rattle.data_file.proofs.Steps.{Answer, behind_goes_on}
 
 pub bytes_in-some : (image : Image) (name : FileName) (bytes : List ℕ) → file_in image name ≡ Some bytes → bytes_in image name ≡ bytes
 bytes_in-some image name bytes is = ap (λ (found : Option (List ℕ)). unwrap_or found []) is

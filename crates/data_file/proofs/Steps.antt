@@ -1,13 +1,12 @@
 -- What each call of the host leaves of one file, in every image.
-use Rattle.std.proofs.Common.{◌≡◌, ◌⊎◌, inl, inr, ⊎_elim, ℕ, ◌+◌, ◌<◌, ◌≤◌, Bool, true, false, List, [], ◌∷◌, ◌++◌, length, take, drop, Option, Some, None, IsSome, Result, Ok, refl, sym, ◌∙◌, ap, subst, arith}
-use Rattle.std.proofs.lemmas.List.{take_all}
+use Rattle.std.proofs.Common.{◌≡◌, ⊎_elim, ℕ, ◌<◌, ◌≤◌, List, [], ◌∷◌, length, Option, Some, None, IsSome, Result, refl, sym, ◌∙◌, subst, arith}
 use Rattle.cache_model.specs.declared.files.FileName.{FileName}
-use Rattle.cache_model.specs.Files.{Image, file_in, bytes_in}
-use Rattle.cache_model.specs.DataFiles.{Frame, CountsFrames}
+use Rattle.cache_model.specs.Files.{Image, file_in}
+use Rattle.cache_model.specs.DataFiles.{CountsFrames}
 use Rattle.cache_disk.specs.declared.host.HostFault.{HostFault}
-use Rattle.cache_disk.specs.State.{HostState, SameFiles, SameBut, Moves}
-use Rattle.cache_disk.specs.Calls.{OnFile, AllLeft, HasFile, Torn, IsTornFrom, Tears, Makes, Settles, HasNames, Created, Wrote, Synced, SyncedNames}
-use Rattle.cache_disk.proofs.Runs.{OnFile-files, HasFile-bytes, HasFile-files, HasFile-there, goes_on_file, first_on_file, weaker_on_file, left_after, left_still, left_on_file, left_weaker}
+use Rattle.cache_disk.specs.State.{HostState, SameFiles, Moves}
+use Rattle.cache_disk.specs.Calls.{OnFile, AllLeft, HasFile, Torn, IsTornFrom, Tears, Makes, Settles, Created, Wrote, Synced, SyncedNames}
+use Rattle.cache_disk.proofs.Runs.{OnFile-files, HasFile-bytes, HasFile-files, HasFile-there, goes_on_file, first_on_file, weaker_on_file, left_after, left_still, left_on_file}
 use Rattle.data_file.specs.Appending.{StartsWith}
 use Rattle.data_file.proofs.Bytes.{torn-starts, counts-short}
 
@@ -26,6 +25,7 @@ module _ (name : FileName) (P : List ℕ → Type 0) where
       stays : (found : Option (List ℕ)) → file_in e name ≡ found → IsTornFrom at n found (file_in m name) → IsSome (file_in e name) → IsSome (file_in m name)
       stays None is torn there = cc
       stays (Some old) is torn there = subst (λ (f : Option (List ℕ)). IsSome f) (sym torn.1) refl
+
       file : (found : Option (List ℕ)) → file_in e name ≡ found → IsTornFrom at n found (file_in m name) → Only name P m
       file None is torn bytes there = cc
       file (Some old) is torn bytes there =

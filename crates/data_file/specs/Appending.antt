@@ -1,7 +1,7 @@
 -- What an appender stands for: the frames that are sealed in its file, and the records written behind them.
 use Rattle.std.specs.Prelude.{◌≡◌, ◌⊎◌, ℕ, ◌+◌, Bool, true, false, List, [], ◌∷◌, ◌++◌, length, take, flat_map, All, Some, if◌then◌else◌}
 use Rattle.cache_model.specs.declared.files.FileName.{FileName}
-use Rattle.cache_model.specs.Files.{Image, file_in}
+use Rattle.cache_model.specs.Files.{file_in}
 use Rattle.cache_model.specs.Items.{Item, end, IsRecord, spelling}
 use Rattle.cache_model.specs.DataFiles.{Frame, file_spelling, AreFrames, CountsFrames}
 use Rattle.cache_disk.specs.State.{HostState}

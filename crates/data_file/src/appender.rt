@@ -13,8 +13,11 @@ use cache_disk::{Host, HostFault};
 use cache_model::{FileName, Place, StoreFault};
 
 const CLOSED: u8 = 0;
+
 const OPEN: u8 = 1;
+
 const VERSION: u8 = 1;
+
 const END: u8 = 0;
 
 /// Writes one data file. What it writes counts only after `seal` opened the gate before it.

@@ -1,4 +1,4 @@
-use Rattle.std.proofs.Common.{arith, ap, sym, ◌∙◌, length}
+use Rattle.std.proofs.Common.{ap}
 use Rattle.data_file.specs.declared.appender.Appender.{Appender}
 use Rattle.data_file.proofs.Bytes.{record-short}
 use Rattle.data_file.proofs.Standing.{counts-behind, first-behind, next-behind, appended, appended-first}

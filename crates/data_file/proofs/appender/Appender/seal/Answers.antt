@@ -1,6 +1,5 @@
-use Rattle.std.proofs.Common.{◌≡◌, ◌+◌, Bool, true, false, refl, ap, ◌∙◌, length, arith, if◌then◌else◌}
+use Rattle.std.proofs.Common.{refl, ap, arith}
 use Rattle.data_file.specs.declared.appender.Appender.{Appender}
-use Rattle.data_file.specs.Appending.{ending}
 use Rattle.data_file.proofs.Bytes.{length-ending}
 use Rattle.data_file.proofs.Sealing.{end-written, second-call, third-call, fourth-call, after-calls}
 use Rattle.data_file.proofs.appender.Appender.seal.Goals as goal
@@ -51,7 +50,8 @@ returns-clause-images g c told frames records stands =
 pub returns-clause-size : goal.returns-clause-size
 returns-clause-size g c =
     let old = c.args.self.now in
-    ap (λ (x : Appender). x.size) c.in_ok-write_end.ensures.grown ∙ omega (arith, length-ending old.versioned c.args.moment)
+    let size = ap (λ (x : Appender). x.size) c.in_ok-write_end.ensures.grown in
+    omega (arith, size, length-ending old.versioned c.args.moment)
 
 pub returns-clause-stands : goal.returns-clause-stands
 returns-clause-stands g c told frames records stands =
