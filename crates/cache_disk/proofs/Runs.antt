@@ -1,11 +1,12 @@
 -- Runs of calls: what a run so far and one call more do together. Each lemma stands over plain states.
-use Rattle.std.proofs.Common.{◌≡◌, ⊎_elim, ℕ, ◌<◌, ◌≤◌, List, Option, Some, None, IsSome, refl, sym, ◌∙◌, subst, arith}
+use Rattle.std.proofs.Common.{◌≡◌, ⊎_elim, ℕ, ◌<◌, ◌≤◌, List, Option, Some, None, Result, Ok, Err, IsSome, refl, sym, ◌∙◌, subst, arith}
 use Rattle.std.proofs.Math.Nat.{eq-or-lt_of_le}
 use Rattle.std.proofs.lemmas.Bool.{cases_lt}
 use Rattle.cache_model.specs.declared.files.FileName.{FileName}
 use Rattle.cache_model.specs.Files.{Image, file_in}
+use Rattle.cache_disk.specs.declared.host.HostFault.{HostFault}
 use Rattle.cache_disk.specs.State.{HostState, SameFiles, SameBut, GoesOn, Silent, Moves, Stands}
-use Rattle.cache_disk.specs.Calls.{OnFile, AllLeft, HasFile}
+use Rattle.cache_disk.specs.Calls.{OnFile, AllLeft, HasFile, Said}
 
 -- images
 
@@ -239,3 +240,8 @@ HasFile-step name P Q a b has step = from_some (file_in b name) refl (step.stays
 -- a run that keeps to the file, from a state whose images have it
 pub left_on_file : (a b : HostState) (name : FileName) (P : List ℕ → Type 0) → Moves a b (OnFile name P) → AllLeft a (λ m. HasFile name P m) → AllLeft b (λ m. HasFile name P m)
 left_on_file a b name P ab all = left_still a b (OnFile name P) (λ m. HasFile name P m) ab all (λ d m has step. HasFile-step name P P d m has step)
+
+-- a say leaves every image as it is, whatever it answers
+pub Said-moves : (bytes : List ℕ) (a b : HostState) (answer : Result (Unit {0}) HostFault) → Said bytes a b answer → Moves a b SameFiles
+Said-moves bytes a b (Ok done) said = said.ok.images
+Said-moves bytes a b (Err fault) said = said.failed.images
