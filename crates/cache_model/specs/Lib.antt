@@ -1,9 +1,11 @@
 pub mod Changes
+pub mod Commands
 pub mod DataFiles
 pub mod Files
 pub mod Items
 pub mod Limits
 pub mod Lines
 pub mod Plain
+pub mod PlainCache
 pub mod Replies
 pub mod Transcript

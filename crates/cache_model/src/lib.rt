@@ -6,6 +6,7 @@ mod entries;
 mod faults;
 mod files;
 mod keys;
+mod plain;
 mod replies;
 mod settings;
 
@@ -14,5 +15,6 @@ pub use entries::{Change, Entry, Lifespan, Until};
 pub use faults::{BadKind, Damage, ModelFault, Spent, StoreFault};
 pub use files::{FileKind, FileName, Place};
 pub use keys::{KEY_LIMIT, Key, Prefix, VALUE_LIMIT, Value};
+pub use plain::PlainCache;
 pub use replies::{Figures, KeyList, Reply, Status, Turned};
 pub use settings::{Activation, Mode, Settings};
