@@ -1,0 +1,40 @@
+//! The program `cache DIR WORD..`: it runs the store in the directory DIR on the script of its standard input, says the
+//! replies on its standard output, and ends with the status of the run.
+#![tactic(auto)]
+
+mod file_names;
+mod folder_host;
+mod handles;
+mod serve;
+mod stdin_source;
+
+use cache_model::Status;
+use folder_host::FolderHost;
+use std::env;
+use std::io::ErrorKind;
+use std::process::ExitCode;
+use stdin_source::StdinSource;
+
+fn main(rt: HostRuntime) -> ExitCode {
+    let status = match env::args(&rt) {
+        Ok(args) => run(rt, args),
+        Err(error) if error.kind() == ErrorKind::OutOfMemory => Status::NoMemory,
+        Err(_) => Status::Usage,
+    };
+    ExitCode::from(status as u8)
+}
+
+// The first argument is the program's name, the second the directory, and the others are the words of the run.
+fn run(rt: HostRuntime, mut args: env::Args) -> Status {
+    args.next();
+    let Some(directory) = args.next() else {
+        return Status::Usage;
+    };
+    let Ok(words) = args.collect::<Vec<String>>(rt.alloc()) else {
+        return Status::NoMemory;
+    };
+    let mut source = StdinSource::new(&rt);
+    let alloc = rt.alloc();
+    let mut host = FolderHost::new(rt, alloc, directory);
+    serve::serve(alloc, &words, &mut host, &mut source)
+}
