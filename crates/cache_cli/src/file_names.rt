@@ -105,3 +105,6 @@ fn ten_digits(text: &str) -> Option<u32> {
     }
     text.parse().ok()
 }
+
+#[cfg(test)]
+mod tests;

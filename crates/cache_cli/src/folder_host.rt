@@ -204,3 +204,6 @@ impl<R: Files<File = File> + AllocGlobal + Print + Clone + Drop> Host for Folder
         }
     }
 }
+
+#[cfg(test)]
+mod tests;
