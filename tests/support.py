@@ -49,7 +49,7 @@ def build():
 
 @contextlib.contextmanager
 def fresh_folder():
-    folder = pathlib.Path(tempfile.mkdtemp(prefix="cache-test-"))
+    folder = pathlib.Path(tempfile.mkdtemp(prefix="cache-test-")).resolve()
     try:
         yield folder
     finally:
