@@ -4,7 +4,7 @@ use Rattle.std.specs.List.{list_all, list_any}
 use Rattle.std.specs.Str.{bytes_eq}
 use Rattle.cache_model.specs.declared.entries.Lifespan.TheVariants.{Endless}
 use Rattle.cache_model.specs.declared.commands.Command.{Command}
-use Rattle.cache_model.specs.declared.commands.Command.TheVariants.{Put}
+use Rattle.cache_model.specs.declared.commands.Command.TheVariants.{Put, Get}
 
 -- a byte in front of the first of these pieces
 abbrev pub with_first : ℕ → List (List ℕ) → List (List ℕ)
@@ -50,12 +50,19 @@ put_of (key ∷ []) = None
 put_of (key ∷ value ∷ []) = if is_token 1024 key && is_token 65536 value then Some (Put key value Endless) else None
 put_of (key ∷ value ∷ more ∷ words) = None
 
+-- the read of a key: `K`
+abbrev pub get_of : List (List ℕ) → Option Command
+get_of [] = None
+get_of (key ∷ []) = if is_token 1024 key then Some (Get key) else None
+get_of (key ∷ more ∷ words) = None
+
 -- the command of a line with these words, where there is one
 abbrev pub command_of_words : List (List ℕ) → Option Command
 command_of_words [] = None
-command_of_words (name ∷ arguments) = if bytes_eq name (codes "put") then put_of arguments else None
+command_of_words (name ∷ arguments) =
+    if bytes_eq name (codes "put") then put_of arguments else (if bytes_eq name (codes "get") then get_of arguments else None)
 
--- the command of a line, where there is one: `put K V`
+-- the command of a line, where there is one: `put K V` or `get K`
 abbrev pub command_of : List ℕ → Option Command
 command_of line = command_of_words (words_of line)
 

@@ -13,9 +13,11 @@ use Rattle.cache_model.specs.Changes.{changes_of, entry_after}
 pub record FitsPrefix (image : Image) (opening : Plain) (commands : List Command) (promised : ℕ) (key : List ℕ) : Type 0 where
   pub entry : Option Entry
   pub read : HasEntry image key entry
-  pub mark : ℕ
-  pub marked : IsMark image mark
   pub count : ℕ
   pub holds : promised ≤ count
   pub within : count ≤ length (changes_of opening commands key)
-  pub reads : (moment : ℕ) → mark ≤ moment → visible_at moment entry ≡ visible_at moment (entry_after (get opening.entries key) (changes_of opening commands key) count)
+  pub reads : (mark moment : ℕ) → IsMark image mark → mark ≤ moment → visible_at moment entry ≡ visible_at moment (entry_after (get opening.entries key) (changes_of opening commands key) count)
+
+-- How many changes of a key were promised by the answers to these commands: each change is synced before it's answered.
+abbrev pub promised_changes : Plain → List Command → List ℕ → ℕ
+promised_changes opening commands key = length (changes_of opening commands key)
