@@ -9,6 +9,7 @@ mod line;
 mod line_reader;
 mod serve;
 mod stdin_source;
+mod words;
 
 use cache_model::Status;
 use folder_host::FolderHost;
