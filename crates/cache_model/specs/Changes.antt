@@ -13,7 +13,7 @@ KeyChange = Option Entry
 -- the changes of a key by one effect: one at the most
 abbrev pub changes_by : Effect → List ℕ → List KeyChange
 changes_by nothing key = []
-changes_by (puts changed entry) key = if bytes_eq changed key then Some entry ∷ [] else []
+changes_by (puts changed entry) key = if bytes_eq key changed then Some entry ∷ [] else []
 changes_by (removes keys) key = if list_any (bytes_eq key) keys then None ∷ [] else []
 
 -- the changes of a key by commands that are done in turn

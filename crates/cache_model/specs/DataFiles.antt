@@ -1,8 +1,8 @@
 -- Data files: an open gate before each frame that counts, and a closed one behind the last.
-use Rattle.std.specs.Prelude.{◌≡◌, ℕ, zero, suc, ◌+◌, ◌^◌, ◌==◌, List, [], ◌∷◌, ◌++◌, length, drop, flat_map, Option, Some, None, nat_le, if◌then◌else◌}
+use Rattle.std.specs.Prelude.{◌≡◌, ℕ, zero, suc, ◌+◌, ◌^◌, ◌==◌, List, [], ◌∷◌, ◌++◌, ◌<◌, length, drop, flat_map, All, Option, Some, None, nat_le, if◌then◌else◌}
 use Rattle.cache_model.specs.declared.faults.BadKind.{BadKind}
 use Rattle.cache_model.specs.declared.faults.BadKind.TheVariants.{Cut, Place, Version}
-use Rattle.cache_model.specs.Items.{Item, put, removal, end, spelling, Front, whole, cut, bad, front}
+use Rattle.cache_model.specs.Items.{Item, put, removal, end, IsItem, IsRecord, spelling, Front, whole, cut, bad, front}
 
 -- A frame: its records, and the moment of its end.
 pub record Frame : Type 0 where
@@ -13,9 +13,24 @@ pub record Frame : Type 0 where
 abbrev pub items_of : Frame → List Item
 items_of frame = frame.records ++ (end frame.moment ∷ [])
 
+-- A frame whose records and end are within their limits, and whose end begins below 2^32, where the frame begins there.
+pub record IsFrameAt (at : ℕ) (frame : Frame) : Type 0 where
+  pub records : All IsRecord frame.records
+  pub moment : IsItem (end frame.moment)
+  pub below : at + length (flat_map spelling frame.records) < 2 ^ 32
+
 -- a frame is spelled item by item
 abbrev pub frame_spelling : Frame → List ℕ
 frame_spelling frame = flat_map spelling (items_of frame)
+
+-- frames one after another from an offset on, a gate behind each
+abbrev pub AreFramesAt : ℕ → List Frame → Type 0
+AreFramesAt at [] = Unit {0}
+AreFramesAt at (frame ∷ frames) = IsFrameAt at frame × AreFramesAt (at + length (frame_spelling frame) + 1) frames
+
+-- the frames of a file
+abbrev pub AreFrames : List Frame → Type 0
+AreFrames frames = AreFramesAt 2 frames
 
 -- frames behind the first, each behind its open gate, and a closed gate at the end
 abbrev pub frames_spelling : List Frame → List ℕ

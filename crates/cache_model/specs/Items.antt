@@ -24,6 +24,12 @@ IsItem (put seq until key value) = (seq < 2 ^ 62) × IsUntil until × IsKeyLengt
 IsItem (removal seq key) = (seq < 2 ^ 62) × IsKeyLength (length key)
 IsItem (end moment) = moment < 2 ^ 61
 
+-- an item other than an end, within its limits
+abbrev pub IsRecord : Item → Type 0
+IsRecord (put seq until key value) = IsItem (put seq until key value)
+IsRecord (removal seq key) = IsItem (removal seq key)
+IsRecord (end moment) = ⊥
+
 -- never is spelled as all ones
 abbrev pub until_number : Until → ℕ
 until_number Never = 2 ^ 64 - 1

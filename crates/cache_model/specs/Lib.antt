@@ -2,10 +2,12 @@ pub mod Changes
 pub mod Commands
 pub mod DataFiles
 pub mod Files
+pub mod Images
 pub mod Items
 pub mod Limits
 pub mod Lines
 pub mod Plain
 pub mod PlainCache
+pub mod Prefix
 pub mod Replies
 pub mod Transcript

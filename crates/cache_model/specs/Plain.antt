@@ -147,3 +147,8 @@ plain_reply publish plain Stats = None
 plain_reply publish plain Export = Some (reply.Exported (capped (length (filter (λ key. starts_with nat_eq key publish) (visible_keys plain)))))
 plain_reply publish plain Stop = Some reply.Stopped
 plain_reply publish plain Halt = Some reply.Halted
+
+-- the map and the moment after some commands in turn
+abbrev pub plain_after_all : Plain → List Command → Plain
+plain_after_all plain [] = plain
+plain_after_all plain (command ∷ commands) = plain_after_all (plain_after plain command) commands

@@ -16,7 +16,7 @@ pub use commands::{Command, StepKind};
 pub use entries::{Change, Entry, Lifespan, Until};
 pub use faults::{BadKind, Damage, ModelFault, Spent, StoreFault};
 pub use files::{FileKind, FileName, Place};
-pub use keys::{Key, Prefix, Value};
+pub use keys::{KEY_LIMIT, Key, Prefix, VALUE_LIMIT, Value};
 pub use plain::PlainCache;
 pub use replies::{Figures, KeyList, Reply, Status, Turned};
 pub use settings::{Activation, Mode, Settings};

@@ -1,0 +1,130 @@
+/* What the benchmark of puts compares the program with, and how it runs the program.
+ *
+ * bare loop FILE MOMENT PUTS KEYS LENGTH   the writes and syncs of so many puts, with nothing else
+ * bare run SCRIPT PROGRAM WORD..           the program on a script, with its output thrown away
+ *
+ * Either prints the seconds that passed, the seconds of processor time and, of the program, the most memory in KiB. */
+#define _GNU_SOURCE
+#include <errno.h>
+#include <fcntl.h>
+#include <libgen.h>
+#include <stdint.h>
+#include <stdio.h>
+#include <stdlib.h>
+#include <string.h>
+#include <sys/resource.h>
+#include <sys/wait.h>
+#include <time.h>
+#include <unistd.h>
+
+static void need(int is_well, const char *what) {
+    if (!is_well) {
+        fprintf(stderr, "bare: %s: %s\n", what, strerror(errno));
+        exit(1);
+    }
+}
+
+static double now(void) {
+    struct timespec at;
+    clock_gettime(CLOCK_MONOTONIC, &at);
+    return at.tv_sec + at.tv_nsec / 1e9;
+}
+
+static double processor_seconds(const struct rusage *used) {
+    return used->ru_utime.tv_sec + used->ru_stime.tv_sec +
+           (used->ru_utime.tv_usec + used->ru_stime.tv_usec) / 1e6;
+}
+
+static void write_at(int file, const void *bytes, size_t count, off_t at) {
+    need(pwrite(file, bytes, count, at) == (ssize_t)count, "write");
+    need(fdatasync(file) == 0, "sync");
+}
+
+static uint8_t *put_number(uint8_t *to, uint64_t number, int bytes) {
+    for (int at = 0; at < bytes; at++)
+        to[at] = number >> 8 * (bytes - 1 - at);
+    return to + bytes;
+}
+
+/* The frame of one put, and the closed gate behind it. Before the first frame stands the version. */
+static size_t spell_frame(uint8_t *frame, uint64_t number, uint64_t moment, uint64_t keys, size_t length) {
+    char key[32];
+    int key_length = snprintf(key, sizeof key, "key%llu", (unsigned long long)((number - 1) % keys));
+    uint8_t *to = frame;
+    if (number == 1)
+        *to++ = 1;
+    *to++ = 1;
+    to = put_number(to, number, 8);
+    to = put_number(to, UINT64_MAX, 8);
+    to = put_number(to, key_length, 2);
+    to = put_number(to, length, 4);
+    to = memcpy(to, key, key_length) + key_length;
+    to = memset(to, 'v', length) + length;
+    *to++ = 0;
+    to = put_number(to, moment, 8);
+    *to++ = 0;
+    return to - frame;
+}
+
+static void make_file(const char *path, int *file) {
+    char folder[4096];
+    snprintf(folder, sizeof folder, "%s", path);
+    *file = open(path, O_RDWR | O_CREAT | O_EXCL, 0666);
+    need(*file >= 0, path);
+    write_at(*file, "\0", 1, 0);
+    int names = open(dirname(folder), O_RDONLY);
+    need(names >= 0 && fsync(names) == 0 && close(names) == 0, "sync of the names");
+}
+
+static void loop(char **words) {
+    uint64_t moment = strtoull(words[1], NULL, 10), puts = strtoull(words[2], NULL, 10);
+    uint64_t keys = strtoull(words[3], NULL, 10);
+    size_t length = strtoull(words[4], NULL, 10);
+    uint8_t *frame = malloc(length + 128);
+    need(frame != NULL, "memory");
+    double begun = now();
+    int file;
+    make_file(words[0], &file);
+    off_t gate = 0;
+    for (uint64_t number = 1; number <= puts; number++) {
+        size_t count = spell_frame(frame, number, moment, keys, length);
+        write_at(file, frame, count, gate + 1);
+        write_at(file, "\1", 1, gate);
+        gate += count;
+    }
+    need(close(file) == 0, "close");
+    struct rusage used;
+    getrusage(RUSAGE_SELF, &used);
+    printf("%.6f %.6f\n", now() - begun, processor_seconds(&used));
+}
+
+static void run(char **words) {
+    double begun = now();
+    pid_t child = fork();
+    need(child >= 0, "fork");
+    if (child == 0) {
+        int script = open(words[0], O_RDONLY), thrown = open("/dev/null", O_WRONLY);
+        need(script >= 0 && thrown >= 0 && dup2(script, 0) == 0 && dup2(thrown, 1) == 1, words[0]);
+        execv(words[1], words + 1);
+        need(0, words[1]);
+    }
+    int status;
+    struct rusage used;
+    need(wait4(child, &status, 0, &used) == child, "wait");
+    double passed = now() - begun;
+    if (!WIFEXITED(status) || WEXITSTATUS(status) != 0) {
+        fprintf(stderr, "bare: the program ended with %d\n", status);
+        exit(1);
+    }
+    printf("%.6f %.6f %ld\n", passed, processor_seconds(&used), used.ru_maxrss);
+}
+
+int main(int count, char **words) {
+    if (count == 7 && strcmp(words[1], "loop") == 0)
+        loop(words + 2);
+    else if (count >= 4 && strcmp(words[1], "run") == 0)
+        run(words + 2);
+    else
+        return 2;
+    return 0;
+}

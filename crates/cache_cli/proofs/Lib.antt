@@ -1,0 +1,2 @@
+mod Pending
+mod Taking

@@ -1,0 +1,2 @@
+pub mod LineReader
+pub mod Words

@@ -1,0 +1,14 @@
+//! The spelling of one item: writing it, and reading what stands at an offset of some bytes.
+#![tactic(auto)]
+
+mod items;
+mod laws;
+mod owning;
+mod reading;
+mod writing;
+
+pub use items::{Item, OwnItem, Span, Step};
+pub use laws::{spelling_is_read_back, spelling_is_unambiguous, whole_is_spelled};
+pub use owning::own;
+pub use reading::decode;
+pub use writing::encode;

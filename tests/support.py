@@ -1,0 +1,153 @@
+"""What the tests share: fresh folders, runs of the program, and a reader of data files of its own."""
+
+import collections
+import contextlib
+import os
+import pathlib
+import shutil
+import subprocess
+import tempfile
+
+TOP = pathlib.Path(__file__).resolve().parent.parent
+
+# What is run. It may be another program with the same words.
+PROGRAM = str(TOP / "cache")
+
+# How long one run may take, in seconds.
+LIMIT = 60
+
+# The statuses that the program ends with.
+DONE, USAGE, DISK_FAILED, SCRIPT_FAILED, SAY_FAILED = 0, 2, 5, 6, 7
+
+# The data file that the first put of an empty folder makes.
+FIRST_FILE = "s0-0000000001.log"
+
+NEVER = 2**64 - 1
+
+Frame = collections.namedtuple("Frame", "puts moment")
+Put = collections.namedtuple("Put", "sequence until key value")
+
+
+class Failed(Exception):
+    """Something was other than it should be."""
+
+
+class Skipped(Exception):
+    """The test can't be made here."""
+
+
+def equal(got, wanted, what):
+    if got != wanted:
+        raise Failed(f"{what}: got {got!r}, not {wanted!r}")
+
+
+def build():
+    """Builds the program where it isn't built. What that prints goes to standard error."""
+    if subprocess.run([PROGRAM], stdin=subprocess.DEVNULL).returncode != USAGE:
+        raise SystemExit("tests/run: the program was not built")
+
+
+@contextlib.contextmanager
+def fresh_folder():
+    folder = pathlib.Path(tempfile.mkdtemp(prefix="cache-test-")).resolve()
+    try:
+        yield folder
+    finally:
+        for path in [folder, *folder.rglob("*")]:
+            if path.is_dir():
+                path.chmod(0o700)
+        shutil.rmtree(folder)
+
+
+def run(arguments, script=b"", **how):
+    """Runs the program on a script and gives its status, its standard output and its standard error."""
+    how.setdefault("stdout", subprocess.PIPE)
+    if "stdin" not in how:
+        how["input"] = script
+    ran = subprocess.run(
+        [PROGRAM, *arguments], stderr=subprocess.PIPE, timeout=LIMIT, **how
+    )
+    return ran.returncode, ran.stdout, ran.stderr
+
+
+def check_run(arguments, script, status, said, **how):
+    """Runs the program, and asks for this status, these lines on standard output and none on standard error."""
+    got = run(arguments, script, **how)
+    text = None if said is None else "".join(f"{line}\n" for line in said).encode()
+    equal(got, (status, text, b""), f"status, output and errors of {arguments}")
+
+
+def check_words(words, folder, script=b"", status=USAGE, said=()):
+    check_run([folder, *words], script, status, said)
+
+
+def names_in(folder):
+    return sorted(os.listdir(os.fsencode(folder)))
+
+
+def check_names(folder, names):
+    equal(names_in(folder), sorted(map(os.fsencode, names)), "the names in the folder")
+
+
+def spelled_put(sequence, key, value, until=NEVER):
+    """A put as it stands in a data file."""
+    numbers = b"\x01" + sequence.to_bytes(8, "big") + until.to_bytes(8, "big")
+    lengths = len(key).to_bytes(2, "big") + len(value).to_bytes(4, "big")
+    return numbers + lengths + key + value
+
+
+def spelled_file(puts, moment):
+    """A data file with one open frame for each put, and a closed gate at its end."""
+    end = b"\x00" + moment.to_bytes(8, "big")
+    frames = [spelled_put(at, *put) + end for at, put in enumerate(puts, start=1)]
+    return b"\x01\x01" + b"\x01".join(frames) + b"\x00"
+
+
+class Reader:
+    """Reads numbers and bytes from the front of a data file."""
+
+    def __init__(self, data):
+        self.data, self.at = data, 0
+
+    def bytes(self, count):
+        if self.at + count > len(self.data):
+            raise Failed(f"the file ends within what stands at {self.at}")
+        self.at += count
+        return self.data[self.at - count : self.at]
+
+    def number(self, count):
+        return int.from_bytes(self.bytes(count), "big")
+
+    def frame(self):
+        puts = []
+        while tag := self.number(1):
+            equal(tag, 1, f"the first byte of the item before {self.at}")
+            sequence, until = self.number(8), self.number(8)
+            key_length, value_length = self.number(2), self.number(4)
+            key, value = self.bytes(key_length), self.bytes(value_length)
+            puts.append(Put(sequence, until, key, value))
+        return Frame(puts, self.number(8))
+
+
+def counted_frames(path):
+    """The frames of a data file that count: those up to the first gate that isn't open."""
+    data = path.read_bytes()
+    if len(data) < 2 or data[0] != 1:
+        return []
+    reader, frames = Reader(data), []
+    is_first = True
+    while reader.number(1) == 1:
+        if is_first:
+            equal(reader.number(1), 1, "the version of the file")
+            is_first = False
+        frames.append(reader.frame())
+    return frames
+
+
+def check_puts(path, puts, moment):
+    """Asks for a file whose counted frames are one for each of these puts, numbered from 1."""
+    wanted = [
+        Frame([Put(at, NEVER, key, value)], moment)
+        for at, (key, value) in enumerate(puts, start=1)
+    ]
+    equal(counted_frames(path), wanted, f"the counted frames of {path.name}")
