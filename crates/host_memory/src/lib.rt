@@ -1,0 +1,9 @@
+//! A host and a source in memory, which follow the disk model to the letter: for tests, with calls that fail, reads
+//! that are short, and the files that a crash at any turn may leave.
+#![tactic(auto)]
+
+mod disk_file;
+mod source;
+
+pub use disk_file::DiskFile;
+pub use source::MemorySource;
