@@ -1,11 +1,12 @@
 // A file as it stands in a directory: its name and its bytes.
-ghost use Rattle.std.specs.Prelude.{◌≡◌, ◌≤◌, length, OnOk, OnErr, IfErr};
+ghost use Rattle.std.specs.Prelude.{◌≡◌, ◌≤◌, length, OnOk, OnErr, IfOk, IfErr};
 ghost use Rattle.cache_model.specs.Files.{is_name};
 ghost use Rattle.cache_disk.specs.Calls.{overwritten};
 ghost use Rattle.cache_disk.specs.declared.host.HostFault.TheVariants.{Memory};
 
 use cache_disk::HostFault;
 use cache_model::FileName;
+use std::alloc::Global;
 use std::marker::Model;
 
 /// A file: its name and its bytes.
@@ -44,6 +45,15 @@ impl DiskFile {
         ensures { result.now ≡ self.now.1 }
     {
         &self.bytes
+    }
+
+    // Another file of the same name and bytes.
+    pub(crate) fn copy(&self, alloc: Global) -> Result<DiskFile, HostFault>
+        ensures same { IfOk result (λ file. file ≡ self.now) }
+        ensures memory { IfErr result (λ fault. fault ≡ Memory) }
+    {
+        let bytes = Vec::from_slice(alloc, &self.bytes).map_err(|_| HostFault::Memory)?;
+        Ok(DiskFile { name: self.name, bytes })
     }
 
     // Whether it has this name.

@@ -3,7 +3,11 @@
 #![tactic(auto)]
 
 mod disk_file;
+mod host;
 mod source;
+mod turns;
 
 pub use disk_file::DiskFile;
+pub use host::MemoryHost;
 pub use source::MemorySource;
+pub use turns::{Call, Turn};
