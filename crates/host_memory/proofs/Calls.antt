@@ -1,23 +1,21 @@
 -- Each call of the host, by what it did to the record.
-use Rattle.std.proofs.Common.{◌≡◌, ◌∙◌, sym, ap, subst, refl, ℕ, ◌+◌, ◌≤◌, ◌<◌, Bool, true, false, not, cond, List, [], ◌∷◌, ◌++◌, length, Option, Some, None, option_map, is_some, Result, Ok, Err, OnOk, OnErr, IsErrOf, IsTrue, if◌then◌else◌, arith, rules}
+use Rattle.std.proofs.Common.{◌≡◌, ◌∙◌, sym, ap, subst, refl, ℕ, ◌≤◌, Bool, true, false, not, List, [], ◌++◌, length, Option, Some, None, option_map, is_some, Result, Ok, Err, OnOk, OnErr, IsTrue, if◌then◌else◌, rules}
 use Rattle.cache_model.specs.declared.files.FileName.{FileName}
 use Rattle.cache_model.specs.Files.{Image, file_in, bytes_in, is_name}
 use Rattle.cache_disk.specs.State.{HostState, SameFiles, Moves}
-use Rattle.cache_disk.specs.Calls.{TakesTurn, Makes, Unmakes, Tears, Stays, Settles, HasNames, Created, Wrote, Synced, Deleted, SyncedNames, Said, overwritten, and_then_said}
+use Rattle.cache_disk.specs.Calls.{TakesTurn, Makes, Unmakes, Tears, Stays, Settles, HasNames, Created, Wrote, Synced, Deleted, SyncedNames, Said, overwritten}
 use Rattle.cache_disk.specs.declared.host.HostFault.{HostFault}
-use Rattle.cache_disk.specs.declared.host.HostFault.TheVariants.{Failed, Memory}
+use Rattle.cache_disk.specs.declared.host.HostFault.TheVariants.{Failed}
 use Rattle.std.specs.declared.alloc.Global.{Global}
 use Rattle.std.specs.Prelude.{Vec}
-use Rattle.host_memory.specs.declared.turns.Call.{Call}
 use Rattle.host_memory.specs.declared.turns.Call.TheVariants.{Create, Write, Sync, Delete, SyncNames, Say}
 use Rattle.host_memory.specs.declared.turns.Turn.{Turn}
 use Rattle.host_memory.specs.Files.{are_named_apart, written, written_over}
-use Rattle.host_memory.specs.History.{History, memory_state, words, counted, fails_next, Fits}
-use Rattle.host_memory.specs.NamesDecide.{is_itself}
-use Rattle.host_memory.specs.ReadsNow.{same_files, is_made, makes, unmakes, gone_without, tears, lookup_put}
-use Rattle.host_memory.specs.Turns.{after, Steps, replayed, words_of, words_since}
+use Rattle.host_memory.specs.History.{History, memory_state, counted, fails_next, Fits}
+use Rattle.host_memory.specs.ReadsNow.{is_made, makes, unmakes, gone_without, tears, lookup_put}
+use Rattle.host_memory.specs.Turns.{after, words_of, words_since}
 use Rattle.host_memory.proofs.Writes.{is_written_over}
-use Rattle.host_memory.proofs.OneMore.{Took, Answers, takes_turn, files_then, replayed_more, words_more}
+use Rattle.host_memory.proofs.OneMore.{Took, Answers, takes_turn, files_then, words_more}
 
 -- where no call is to fail, none did
 pub still_none : (fail : List ℕ) (calls faults faults_then : ℕ) (ok : Bool) → ok ≡ not (fails_next fail calls) → faults_then ≡ (if ok then faults else counted faults) → (fail ≡ [] → faults ≡ 0) → fail ≡ [] → faults_then ≡ 0
@@ -35,7 +33,8 @@ fits_then old new turn files files_now said said_now fits took files_are apart s
   apart = apart;
   spoken = said_is ∙ ap (λ said. said ++ words_of turn.call) fits.spoken ∙ sym (words_more [] old.turns turn) ∙ sym (ap (words_since []) took.turns);
   no_disk_faults = no_disk;
-  no_say_faults = no_say }
+  no_say_faults = no_say;
+}
 
 -- images that come by a step come by a weaker one
 weaker : (old new : HostState) (step other : Image → Image → Type 0) → ((c d : Image) → step c d → other c d) → Moves old new step → Moves old new other
@@ -43,7 +42,8 @@ weaker old new step other weaken moves = record {
   later = moves.later;
   past = moves.past;
   kept = moves.kept;
-  now = λ t c above below left. let came = moves.now t c above below left in (came.0, came.1, weaken came.0 c came.2) }
+  now = λ t c above below left. let came = moves.now t c above below left in (came.0, came.1, weaken came.0 c came.2);
+}
 
 weaker_turn : (old new : HostState) (step other : Image → Image → Type 0) (out : ℕ) (now_said : Option (List ℕ)) (result : Result (Unit {0}) HostFault) → ((c d : Image) → step c d → other c d) → TakesTurn old new step out now_said result → TakesTurn old new other out now_said result
 weaker_turn old new step other out now_said result weaken turn = record {
@@ -54,7 +54,8 @@ weaker_turn old new step other out now_said result weaken turn = record {
   said = turn.said;
   put_out = turn.put_out;
   asked = turn.asked;
-  short_reads = turn.short_reads }
+  short_reads = turn.short_reads;
+}
 
 -- files that are equal are the same
 same_from : (old new : Image) → new ≡ old → SameFiles old new
@@ -92,7 +93,8 @@ created old new name ok result took answers =
     record {
       turn = takes_turn old new (record { call = Create name; asked = old.asked }) ok result took answers;
       files = subst M (sym files) (makes name (memory_state old).files);
-      made = on_ok result (ap (λ files. file_in files name) files ∙ is_made name (memory_state old).files) }
+      made = on_ok result (ap (λ files. file_in files name) files ∙ is_made name (memory_state old).files);
+    }
 
 pub deleted : (old new : History) (name : FileName) (ok : Bool) (result : Result (Unit {0}) HostFault) → Took old new (record { call = Delete name; asked = old.asked }) → Answers ok result → Deleted name (memory_state old) (memory_state new) result
 deleted old new name ok result took answers =
@@ -101,7 +103,8 @@ deleted old new name ok result took answers =
     record {
       turn = takes_turn old new (record { call = Delete name; asked = old.asked }) ok result took answers;
       files = subst M (sym files) (unmakes name (memory_state old).files);
-      gone = on_ok result (ap (λ files. file_in files name) files ∙ gone_without name (memory_state old).files) }
+      gone = on_ok result (ap (λ files. file_in files name) files ∙ gone_without name (memory_state old).files);
+    }
 
 pub synced : (old new : History) (name : FileName) (ok : Bool) (result : Result (Unit {0}) HostFault) → Took old new (record { call = Sync name ok; asked = old.asked }) → Answers ok result → Synced name (memory_state old) (memory_state new) result
 synced old new name true result took answers =
@@ -109,11 +112,13 @@ synced old new name true result took answers =
     record {
       turn = weaker_turn (memory_state old) (memory_state new) (Settles (memory_state old).files name) Stays 0 ((memory_state old).said (memory_state old).turn) result (λ c d settles. settles.stays) turn;
       files = same_from (memory_state old).files (memory_state new).files (files_then old new (record { call = Sync name true; asked = old.asked }) took);
-      settled = on_ok result turn.images }
+      settled = on_ok result turn.images;
+    }
 synced old new name false result took answers = record {
   turn = takes_turn old new (record { call = Sync name false; asked = old.asked }) false result took answers;
   files = same_from (memory_state old).files (memory_state new).files (files_then old new (record { call = Sync name false; asked = old.asked }) took);
-  settled = on_failed result _ answers }
+  settled = on_failed result _ answers;
+}
 
 pub synced_names : (old new : History) (ok : Bool) (result : Result (Unit {0}) HostFault) → Took old new (record { call = SyncNames ok; asked = old.asked }) → Answers ok result → SyncedNames (memory_state old) (memory_state new) result
 synced_names old new true result took answers =
@@ -121,21 +126,25 @@ synced_names old new true result took answers =
     record {
       turn = weaker_turn (memory_state old) (memory_state new) (HasNames (memory_state old).files) Stays 0 ((memory_state old).said (memory_state old).turn) result (λ c d has. has.stays) turn;
       files = same_from (memory_state old).files (memory_state new).files (files_then old new (record { call = SyncNames true; asked = old.asked }) took);
-      settled = on_ok result turn.images }
+      settled = on_ok result turn.images;
+    }
 synced_names old new false result took answers = record {
   turn = takes_turn old new (record { call = SyncNames false; asked = old.asked }) false result took answers;
   files = same_from (memory_state old).files (memory_state new).files (files_then old new (record { call = SyncNames false; asked = old.asked }) took);
-  settled = on_failed result _ answers }
+  settled = on_failed result _ answers;
+}
 
 pub said : (old new : History) (bytes : Vec ℕ Global) (ok : Bool) (result : Result (Unit {0}) HostFault) → Took old new (record { call = Say bytes ok; asked = old.asked }) → Answers ok result → Said bytes.items (memory_state old) (memory_state new) result
 said old new bytes true result took answers = record {
   ok = on_ok result (takes_turn old new (record { call = Say bytes true; asked = old.asked }) true result took answers);
   failed = on_said result _ answers;
-  files = same_from (memory_state old).files (memory_state new).files (files_then old new (record { call = Say bytes true; asked = old.asked }) took) }
+  files = same_from (memory_state old).files (memory_state new).files (files_then old new (record { call = Say bytes true; asked = old.asked }) took);
+}
 said old new bytes false result took answers = record {
   ok = on_failed result _ answers;
   failed = on_err result (takes_turn old new (record { call = Say bytes false; asked = old.asked }) false result took answers);
-  files = same_from (memory_state old).files (memory_state new).files (files_then old new (record { call = Say bytes false; asked = old.asked }) took) }
+  files = same_from (memory_state old).files (memory_state new).files (files_then old new (record { call = Say bytes false; asked = old.asked }) took);
+}
 
 -- a write, where the record keeps these bytes
 pub wrote : (old new : History) (name : FileName) (at : ℕ) (kept : Vec ℕ Global) (ok : Bool) (result : Result (Unit {0}) HostFault) → at ≤ length (bytes_in (memory_state old).files name) → IsTrue (is_some (file_in (memory_state old).files name)) → Took old new (record { call = Write name at kept; asked = old.asked }) → Answers ok result → Wrote name at kept.items (memory_state old) (memory_state new) result
@@ -145,4 +154,5 @@ wrote old new name at kept ok result room there took answers =
     record {
       turn = takes_turn old new (record { call = Write name at kept; asked = old.asked }) ok result took answers;
       files = subst T (sym files) (tears name at kept.items (memory_state old).files);
-      written = on_ok result (ap (λ files. file_in files name) files ∙ is_written name at kept.items (memory_state old).files room there) }
+      written = on_ok result (ap (λ files. file_in files name) files ∙ is_written name at kept.items (memory_state old).files room there);
+    }

@@ -1,13 +1,12 @@
 -- A host with one more turn, or with none, seen as its state.
-use Rattle.std.proofs.Common.{◌≡◌, ◌∙◌, sym, ap, subst, refl, ℕ, zero, suc, ◌+◌, ◌<◌, ◌≤◌, Bool, true, false, not, List, [], ◌∷◌, ◌++◌, length, take, Option, Some, None, Result, Ok, Err, OnOk, IsErrOf, if◌then◌else◌, arith, length-append, rules}
+use Rattle.std.proofs.Common.{◌≡◌, ◌∙◌, sym, ap, subst, refl, ℕ, zero, suc, ◌+◌, ◌<◌, ◌≤◌, Bool, true, false, List, [], ◌∷◌, ◌++◌, length, take, Option, Some, Result, Ok, Err, OnOk, IsErrOf, if◌then◌else◌, arith, length-append, rules}
 use Rattle.std.proofs.Math.Seq.{take-length}
 use Rattle.std.proofs.lemmas.List.{take-append-le}
 use Rattle.cache_model.specs.Files.{Image}
-use Rattle.cache_disk.specs.State.{HostState, SameFiles, GoesOn, Moves, Stands, Asks}
+use Rattle.cache_disk.specs.State.{GoesOn, Moves, Stands, Asks}
 use Rattle.cache_disk.specs.Calls.{TakesTurn}
 use Rattle.cache_disk.specs.declared.host.HostFault.{HostFault}
 use Rattle.cache_disk.specs.declared.host.HostFault.TheVariants.{Failed, Memory}
-use Rattle.host_memory.specs.declared.turns.Call.{Call}
 use Rattle.host_memory.specs.declared.turns.Turn.{Turn}
 use Rattle.host_memory.specs.ReadsNow.{same_files}
 use Rattle.host_memory.specs.Turns.{after, Steps, replayed, Leads, MayBeLeft, said_after, said_since, words_of, words_since, out_of, out_since, asked_by}
@@ -23,7 +22,8 @@ take_more turns turn t above below =
 goes_on : {A : Type 0} (f : List Turn → A) (turns : List Turn) (turn : Turn) (now : A) → f (turns ++ turn ∷ []) ≡ now → GoesOn (length turns) (length (turns ++ turn ∷ [])) (λ t. f (take t turns)) (λ t. f (take t (turns ++ turn ∷ []))) now
 goes_on f turns turn now step = record {
   stays = λ t le. ap f (take-append-le t turns (turn ∷ []) le);
-  since = λ t above below. ap f (take_more turns turn t above below) ∙ step }
+  since = λ t above below. ap f (take_more turns turn t above below) ∙ step;
+}
 
 pub said_more : (said : Option (List ℕ)) (turns : List Turn) (turn : Turn) → said_since said (turns ++ turn ∷ []) ≡ said_after (said_since said turns) turn.call
 said_more said [] turn = refl
@@ -61,7 +61,8 @@ asked_until (first ∷ turns) turn n noted (suc t) le = asked_until turns turn n
 asked_more : (turns : List Turn) (turn : Turn) (n : ℕ) → turn.asked ≡ n → GoesOn (length turns) (length (turns ++ turn ∷ [])) (λ t. asked_by turns n t) (λ t. asked_by (turns ++ turn ∷ []) n t) (asked_by turns n (length turns))
 asked_more turns turn n noted = record {
   stays = asked_until turns turn n noted;
-  since = λ t above below. asked_now (turns ++ turn ∷ []) n t (omega (arith, length-append turns (turn ∷ []))) ∙ sym (asked_now turns n (length turns) (omega arith)) }
+  since = λ t above below. asked_now (turns ++ turn ∷ []) n t (omega (arith, length-append turns (turn ∷ []))) ∙ sym (asked_now turns n (length turns) (omega arith));
+}
 
 -- the last turn is a step
 leads_back : (files : Image) (turns : List Turn) (turn : Turn) (from to : Image) → Leads files (turns ++ turn ∷ []) from to → (d : Image) × Leads files turns from d × Steps (replayed files turns) turn.call d to
@@ -102,7 +103,8 @@ moves old turn new = record {
       let P : List Turn → Type 0 = λ turns. MayBeLeft old.initial turns c in
       let back = left_back old.initial old.turns turn c (subst P (take_more old.turns turn t above below) left) in
       let Q : Image → List Turn → Type 0 = λ d turns. MayBeLeft old.initial turns d in
-      (back.0, subst (Q back.0) (sym (take-length old.turns)) back.1, back.2) }
+      (back.0, subst (Q back.0) (sym (take-length old.turns)) back.1, back.2);
+}
 
 -- what a call answers that succeeds or not
 abbrev pub Answers : Bool → Result (Unit {0}) HostFault → Type 0
@@ -128,7 +130,8 @@ took_turn old turn new ok result noted answers =
       said = goes_on (said_since (Some [])) old.turns turn _ (said_more (Some []) old.turns turn ∙ ap (λ turns. said_after (said_since (Some []) turns) turn.call) (sym (take-length old.turns)));
       put_out = goes_on (out_since 0) old.turns turn _ (out_more 0 old.turns turn ∙ ap (λ turns. out_since 0 turns + out_of turn.call) (sym (take-length old.turns)));
       asked = asked_more old.turns turn old.asked noted;
-      short_reads = refl }
+      short_reads = refl;
+    }
 
 -- a call that took a turn
 pub takes_turn : (old new : History) (turn : Turn) (ok : Bool) (result : Result (Unit {0}) HostFault) → Took old new turn → Answers ok result
@@ -149,7 +152,7 @@ pub record Stood (old new : History) : Type 0 where
 pub stands : (old new : History) → Stood old new → Stands (memory_state old) (memory_state new)
 stands old new stood =
     let is : new ≡ record new { initial = old.initial; turns = old.turns } =
-        ap (λ initial. taken new initial new.turns new.asked new.short_reads) stood.initial ∙ ap (λ turns. taken new old.initial turns new.asked new.short_reads) stood.turns in
+    ap (λ initial. taken new initial new.turns new.asked new.short_reads) stood.initial ∙ ap (λ turns. taken new old.initial turns new.asked new.short_reads) stood.turns in
     let P : History → Type 0 = λ host. Stands (memory_state old) (memory_state host) in
     subst P (sym is) (record {
       turn = refl;
@@ -157,15 +160,17 @@ stands old new stood =
       past = λ t c le left. left;
       kept = λ t c le left. left;
       said = λ t le. refl;
-      put_out = λ t le. refl })
+      put_out = λ t le. refl;
+    })
 
 pub asks : (old new : History) (count : ℕ) → Stood old new → new.asked ≡ old.asked + count → Asks (memory_state old) (memory_state new) count
 asks old new count stood more =
     let is : new ≡ taken new old.initial old.turns (old.asked + count) new.short_reads =
-        ap (λ initial. taken new initial new.turns new.asked new.short_reads) stood.initial
-        ∙ ap (λ turns. taken new old.initial turns new.asked new.short_reads) stood.turns
-        ∙ ap (λ asked. taken new old.initial old.turns asked new.short_reads) more in
+    ap (λ initial. taken new initial new.turns new.asked new.short_reads) stood.initial
+    ∙ ap (λ turns. taken new old.initial turns new.asked new.short_reads) stood.turns
+    ∙ ap (λ asked. taken new old.initial old.turns asked new.short_reads) more in
     let P : History → Type 0 = λ host. Asks (memory_state old) (memory_state host) count in
     subst P (sym is) (record {
       past = λ t below. asked_past old.turns (old.asked + count) old.asked t below;
-      now = asked_now old.turns (old.asked + count) (length old.turns) (omega arith) ∙ ap (λ n. n + count) (sym (asked_now old.turns old.asked (length old.turns) (omega arith))) })
+      now = asked_now old.turns (old.asked + count) (length old.turns) (omega arith) ∙ ap (λ n. n + count) (sym (asked_now old.turns old.asked (length old.turns) (omega arith)));
+    })

@@ -1,10 +1,10 @@
 -- A write in place.
-use Rattle.std.proofs.Common.{◌≡◌, ◌∙◌, sym, ap, ℕ, ◌≤◌, Bool, true, List, [], length, get_or, set, Option, Some, unwrap_or, subst, if◌then◌else◌, nat_le, arith, refl}
+use Rattle.std.proofs.Common.{◌≡◌, ◌∙◌, sym, ap, ℕ, ◌≤◌, List, [], length, get_or, set, Some, unwrap_or, subst, arith}
 use Rattle.std.specs.List.{position}
 use Rattle.std.specs.Map.{set_value}
 use Rattle.std.proofs.lemmas.Grind.{common_steps}
 use Rattle.cache_model.specs.declared.files.FileName.{FileName}
-use Rattle.cache_model.specs.Files.{Image, file_in, bytes_in, is_name}
+use Rattle.cache_model.specs.Files.{Image, bytes_in, is_name}
 use Rattle.cache_disk.specs.Calls.{overwritten}
 use Rattle.host_memory.specs.Files.{written, written_over}
 use Rattle.host_memory.proofs.Places.{place_gives, place_puts}

@@ -37,8 +37,18 @@ fails_next fail calls = list_any (λ number. number == counted calls) fail
 -- the host with no call made
 abbrev pub begun : Image → List ℕ → List ℕ → ℕ → History
 begun files disk_fail say_fail short = record {
-  initial = files; turns = []; asked = 0; disk_fail = disk_fail; say_fail = say_fail; disk_calls = 0; says = 0;
-  short = short; disk_faults = 0; say_faults = 0; short_reads = 0 }
+  initial = files;
+  turns = [];
+  asked = 0;
+  disk_fail = disk_fail;
+  say_fail = say_fail;
+  disk_calls = 0;
+  says = 0;
+  short = short;
+  disk_faults = 0;
+  say_faults = 0;
+  short_reads = 0;
+}
 
 -- what the host stands for
 abbrev pub memory_state : History → HostState
@@ -51,7 +61,8 @@ memory_state host = record {
   asked = λ t. asked_by host.turns host.asked t;
   disk_faults = host.disk_faults;
   say_faults = host.say_faults;
-  short_reads = host.short_reads }
+  short_reads = host.short_reads;
+}
 
 -- the bytes of all says that succeeded
 abbrev pub words : History → List ℕ

@@ -1,8 +1,7 @@
 -- `is_name` tells names apart.
-use Rattle.std.proofs.Common.{◌≡◌, ◌∙◌, sym, ap, subst, refl, ℕ, Bool, true, false, ◌&&◌, ◌==◌, arith}
+use Rattle.std.proofs.Common.{◌≡◌, ◌∙◌, ap, refl, ℕ, true, arith}
 use Rattle.std.specs.Cmp.{IsEquivalence}
 use Rattle.std.proofs.lemmas.Grind.{common_steps}
-use Rattle.std.proofs.lemmas.Cmp.{nat_eq_equiv}
 use Rattle.cache_model.specs.declared.files.FileKind.{FileKind}
 use Rattle.cache_model.specs.declared.files.FileKind.TheVariants.{Rules, Log, Tree, Base}
 use Rattle.cache_model.specs.declared.files.FileName.{FileName}
@@ -47,4 +46,5 @@ pub is_name_equivalence : IsEquivalence is_name
 is_name_equivalence = record {
   refl = is_itself;
   symm = λ x y. grind (arith, common_steps);
-  congr = λ x y z h. ap (λ name. is_name name z) (same_name x y h) }
+  congr = λ x y z h. ap (λ name. is_name name z) (same_name x y h);
+}

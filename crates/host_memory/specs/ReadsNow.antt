@@ -1,21 +1,19 @@
 -- The files as they read are one of the images that a crash may leave.
-use Rattle.std.proofs.Common.{◌≡◌, ◌∙◌, sym, ap, subst, refl, ℕ, ◌+◌, ◌≤◌, Bool, true, false, not, cond, max, List, [], ◌∷◌, ◌++◌, length, take, drop, Option, Some, None, option_map, unwrap_or, IsSome, ◌⊎◌, inl, inr, arith, ◌-◌, ◌<◌, nat_le, if◌then◌else◌, append_assoc, length-append, length-drop}
-use Rattle.std.specs.List.{filter}
+use Rattle.std.proofs.Common.{◌≡◌, ◌∙◌, sym, ap, subst, refl, ℕ, ◌+◌, ◌≤◌, Bool, true, false, not, List, [], ◌∷◌, ◌++◌, length, take, drop, Some, None, option_map, unwrap_or, inr, arith, ◌-◌, nat_le, if◌then◌else◌, append_assoc, length-append, length-drop}
 use Rattle.std.specs.Map.{lookup, set_value}
-use Rattle.std.proofs.lemmas.Grind.{common_steps}
 use Rattle.std.proofs.Math.Seq.{take-length, take-append_seam, drop-append_seam}
 use Rattle.std.proofs.lemmas.List.{length-take}
 use Rattle.std.proofs.lemmas.Map.Entries.{lookup-filter-keys}
 use Rattle.cache_model.specs.declared.files.FileName.{FileName}
-use Rattle.cache_model.specs.Files.{Image, file_in, bytes_in, is_name}
+use Rattle.cache_model.specs.Files.{Image, file_in, is_name}
 use Rattle.cache_disk.specs.State.{SameFiles, SameBut}
-use Rattle.cache_disk.specs.Calls.{Makes, Unmakes, Tears, Torn, IsTornFrom, Stays, Settles, HasNames, overwritten}
+use Rattle.cache_disk.specs.Calls.{Makes, Unmakes, Tears, Torn, IsTornFrom, overwritten}
 use Rattle.host_memory.specs.declared.turns.Call.{Call}
 use Rattle.host_memory.specs.declared.turns.Call.TheVariants.{Create, Write, Sync, Delete, SyncNames, Say}
 use Rattle.host_memory.specs.declared.turns.Turn.{Turn}
 use Rattle.host_memory.specs.Files.{made, written, written_over, without}
 use Rattle.host_memory.specs.NamesDecide.{is_name_equivalence, same_name, is_itself}
-use Rattle.host_memory.specs.Turns.{after, Steps, Syncs, replayed, Leads, MayBeLeft}
+use Rattle.host_memory.specs.Turns.{after, Steps, replayed, Leads, MayBeLeft}
 
 -- both have the same files
 pub same_files : (files : Image) → SameFiles files files
@@ -28,7 +26,7 @@ apart but name other differs is = ap (λ n. is_name but n) (sym (same_name name 
 pub others_without : (but : FileName) (files : Image) → SameBut but files (without but files)
 others_without but files = λ name differs.
     lookup-filter-keys (is_name name) (λ other. not (is_name but other)) true
-        (λ other is. ap not (apart but name other differs is)) files
+    (λ other is. ap not (apart but name other differs is)) files
 
 pub gone_without : (name : FileName) (files : Image) → file_in (without name files) name ≡ None
 gone_without name files = lookup-filter-keys (is_name name) (λ other. not (is_name name other)) false (λ other is. ap not is) files
@@ -54,7 +52,8 @@ is_made name files = lookup_behind (is_name name) (without name files) (name, []
 pub makes : (name : FileName) (files : Image) → Makes name files (made name files)
 makes name files = record {
   others = λ other differs. lookup_before (is_name other) (without name files) (name, []) (flipped name other differs) ∙ others_without name files other differs;
-  made = inr (is_made name files) }
+  made = inr (is_made name files);
+}
 
 -- what a write leaves of a file is one of the outcomes of a crash
 front : (at : ℕ) (bytes old : List ℕ) → at ≤ length old → length (take at old ++ bytes) ≡ at + length bytes
@@ -70,7 +69,8 @@ torn_inside at bytes old room =
       before = subst E before (rw append_assoc (take-append_seam (take at old) (bytes ++ drop (at + length bytes) old)));
       after = subst D (front at bytes old room) (drop-append_seam (take at old ++ bytes) (drop (at + length bytes) old));
       no_shorter = omega (arith, long);
-      no_longer = omega (arith, long) }
+      no_longer = omega (arith, long);
+    }
 
 untorn : (at n : ℕ) (old : List ℕ) → Torn at n old old
 untorn at n old = record { before = refl; after = refl; no_shorter = omega arith; no_longer = omega arith }
@@ -94,8 +94,10 @@ pub tears : (name : FileName) (at : ℕ) (bytes : List ℕ) (files : Image) → 
 tears name at bytes files = record {
   others = λ other differs. lookup_unput (is_name name) (is_name other) files _ (λ third is. flipped third other (ap (λ n. is_name n other) (sym (same_name name third is)) ∙ differs));
   torn = rw lookup_put (elim (file_in files name) as (λ found. IsTornFrom at (length bytes) found (option_map (λ _. written_over (unwrap_or found []) at bytes) found)) [
-    None ↦ refl
-  | Some old ↦ (written_over old at bytes, refl, torn_over at bytes old) ]) }
+    | None ↦ refl
+    | Some old ↦ (written_over old at bytes, refl, torn_over at bytes old)
+  ]);
+}
 
 -- each call does to the files as they read what it may do to an image
 pub steps_now : (call : Call) (files : Image) → Steps files call files (after call files)

@@ -53,7 +53,10 @@ impl DiskFile {
         ensures memory { IfErr result (λ fault. fault ≡ Memory) }
     {
         let bytes = Vec::from_slice(alloc, &self.bytes).map_err(|_| HostFault::Memory)?;
-        Ok(DiskFile { name: self.name, bytes })
+        Ok(DiskFile {
+            name: self.name,
+            bytes,
+        })
     }
 
     // Whether it has this name.

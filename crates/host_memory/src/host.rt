@@ -1,5 +1,5 @@
 // A host in memory.
-ghost use Rattle.std.specs.Prelude.{◌≡◌, ◌++◌, [], ℕ, List, if◌then◌else◌, length, min, map, drop, take, IfOk, IfErr, OnOk, OnErr, IsTrue, Some, Ok, Err, IsSome, option_map, option_copied, not, ◌≤◌, ◌<◌};
+ghost use Rattle.std.specs.Prelude.{◌≡◌, ◌+◌, ◌++◌, ◌∷◌, [], ℕ, List, if◌then◌else◌, length, min, map, drop, take, IfOk, IfErr, OnOk, OnErr, IsTrue, Some, Ok, Err, IsSome, option_map, option_copied, not, ◌≤◌, ◌<◌};
 ghost use Rattle.std.specs.List.{position};
 ghost use Rattle.cache_model.specs.Files.{Image, file_in, bytes_in, is_name};
 ghost use Rattle.cache_disk.specs.State.{SameFiles};
@@ -39,31 +39,31 @@ impl Model for MemoryHost {
     ghost Value = { History };
 
     ghost view = { λ host. record {
-        initial = host.initial.items;
-        turns = host.turns.items;
-        asked = host.asked;
-        disk_fail = host.disk_fail.items;
-        say_fail = host.say_fail.items;
-        disk_calls = host.disk_calls;
-        says = host.says;
-        short = host.short;
-        disk_faults = host.disk_faults;
-        say_faults = host.say_faults;
-        short_reads = host.short_reads
+      initial = host.initial.items;
+      turns = host.turns.items;
+      asked = host.asked;
+      disk_fail = host.disk_fail.items;
+      say_fail = host.say_fail.items;
+      disk_calls = host.disk_calls;
+      says = host.says;
+      short = host.short;
+      disk_faults = host.disk_faults;
+      say_faults = host.say_faults;
+      short_reads = host.short_reads;
     } };
 
     ghost invariant = { λ host. Fits (record {
-        initial = host.initial.items;
-        turns = host.turns.items;
-        asked = host.asked;
-        disk_fail = host.disk_fail.items;
-        say_fail = host.say_fail.items;
-        disk_calls = host.disk_calls;
-        says = host.says;
-        short = host.short;
-        disk_faults = host.disk_faults;
-        say_faults = host.say_faults;
-        short_reads = host.short_reads
+      initial = host.initial.items;
+      turns = host.turns.items;
+      asked = host.asked;
+      disk_fail = host.disk_fail.items;
+      say_fail = host.say_fail.items;
+      disk_calls = host.disk_calls;
+      says = host.says;
+      short = host.short;
+      disk_faults = host.disk_faults;
+      say_faults = host.say_faults;
+      short_reads = host.short_reads;
     }) host.files.items host.said.items };
 }
 
@@ -135,7 +135,9 @@ fn copies(alloc: Global, files: &[DiskFile]) -> Result<Vec<DiskFile>, HostFault>
 {
     let mut copies = Vec::new(alloc);
     for file in files {
-        copies.push(file.copy(alloc)?).map_err(|_| HostFault::Memory)?;
+        copies
+            .push(file.copy(alloc)?)
+            .map_err(|_| HostFault::Memory)?;
     }
     Ok(copies)
 }
@@ -179,7 +181,11 @@ fn shortened(count: usize, limit: u64) -> usize
     ensures within { result ≤ count }
     ensures some { 0 < count → 0 < result }
 {
-    if limit == 0 || count as u64 <= limit { count } else { limit as usize }
+    if limit == 0 || count as u64 <= limit {
+        count
+    } else {
+        limit as usize
+    }
 }
 
 // The bytes of a file from an offset on, none where there is no such file.
@@ -189,7 +195,11 @@ fn bytes_from(files: &[DiskFile], name: FileName, at: u64) -> &[u8]
     match file_named(files, name) {
         Some(file) => {
             let bytes = file.bytes();
-            if at < bytes.len() as u64 { &bytes[at as usize..] } else { &[] }
+            if at < bytes.len() as u64 {
+                &bytes[at as usize..]
+            } else {
+                &[]
+            }
         }
         None => &[],
     }
@@ -203,7 +213,12 @@ fn place_of(files: &[DiskFile], name: FileName) -> Option<usize>
 }
 
 // Writes the bytes at an offset of a file. After an `Err` the files are as they were.
-fn write_in(files: &mut Vec<DiskFile>, name: FileName, at: u64, bytes: &[u8]) -> Result<(), HostFault>
+fn write_in(
+    files: &mut Vec<DiskFile>,
+    name: FileName,
+    at: u64,
+    bytes: &[u8],
+) -> Result<(), HostFault>
     requires { at ≤ length (bytes_in files.old.items name) }
     ensures written { OnOk result (files.new.items ≡ written name at bytes.now files.old.items) }
     ensures same { OnErr result (files.new.items ≡ files.old.items) }
@@ -215,12 +230,58 @@ fn write_in(files: &mut Vec<DiskFile>, name: FileName, at: u64, bytes: &[u8]) ->
     }
 }
 
+// The same bytes.
+fn copy_of(alloc: Global, bytes: &[u8]) -> Result<Vec<u8>, HostFault>
+    ensures same { IfOk result (λ copy. copy.items ≡ bytes.now) }
+    ensures memory { IfErr result (λ fault. fault ≡ Memory) }
+{
+    Vec::from_slice(alloc, bytes).map_err(|_| HostFault::Memory)
+}
+
+// Adds a file. After an `Err` the files are as they were.
+fn add(files: &mut Vec<DiskFile>, name: FileName, bytes: Vec<u8>) -> Result<(), HostFault>
+    ensures added { OnOk result (files.new.items ≡ files.old.items ++ (name, bytes.items) ∷ []) }
+    ensures same { OnErr result (files.new.items ≡ files.old.items) }
+    ensures memory { IfErr result (λ fault. fault ≡ Memory) }
+{
+    files
+        .push(DiskFile::new(name, bytes))
+        .map_err(|_| HostFault::Memory)
+}
+
+// Takes the file of this name away.
+fn remove(files: &mut Vec<DiskFile>, name: FileName)
+    ensures { files.new.items ≡ without name files.old.items }
+{
+    files.retain(|file| !file.is_named(name));
+}
+
 // Whether the next of the calls is to succeed.
 fn succeeds(fail: &[u64], calls: u64) -> bool
     ensures { result ≡ not (fails_next fail.now calls) }
 {
     let number = calls.saturating_add(1);
     !fail.contains(&number)
+}
+
+// The bytes asked for with so many more.
+fn sum_asked(asked: u128, more: usize) -> Result<u128, HostFault>
+    ensures sum { IfOk result (λ sum. sum ≡ asked + more) }
+    ensures memory { IfErr result (λ fault. fault ≡ Memory) }
+{
+    match asked.checked_add(more as u128) {
+        Some(sum) => Ok(sum),
+        None => Err(HostFault::Memory),
+    }
+}
+
+// Counts one more where it is so.
+fn count_if(is: bool, count: &mut u64)
+    ensures { count.new ≡ (if is then counted count.old else count.old) }
+{
+    if is {
+        *count = count.saturating_add(1);
+    }
 }
 
 // Counts a call, and its fault where it failed.
@@ -230,11 +291,8 @@ fn end_call(ok: bool, calls: &mut u64, faults: &mut u64) -> Result<(), HostFault
     ensures faults { faults.new ≡ (if ok then faults.old else counted faults.old) }
 {
     *calls = calls.saturating_add(1);
-    if !ok {
-        *faults = faults.saturating_add(1);
-        return Err(HostFault::Failed);
-    }
-    Ok(())
+    count_if(!ok, faults);
+    if ok { Ok(()) } else { Err(HostFault::Failed) }
 }
 
 // Says the bytes, where that succeeds. After an `Err` nothing is said.
@@ -244,7 +302,8 @@ fn speak(said: &mut Vec<u8>, ok: bool, bytes: &[u8]) -> Result<(), HostFault>
     ensures memory { IfErr result (λ fault. fault ≡ Memory) }
 {
     if ok {
-        said.extend_from_slice(bytes).map_err(|_| HostFault::Memory)?;
+        said.extend_from_slice(bytes)
+            .map_err(|_| HostFault::Memory)?;
     }
     Ok(())
 }
@@ -275,29 +334,26 @@ impl Host for MemoryHost {
 
     fn read(&mut self, name: FileName, at: u64, buf: &mut [u8]) -> Result<usize, HostFault> {
         let ok = succeeds(&self.disk_fail, self.disk_calls);
-        self.asked = self.asked.checked_add(buf.len() as u128).ok_or(HostFault::Memory)?;
+        self.asked = sum_asked(self.asked, buf.len())?;
         end_call(ok, &mut self.disk_calls, &mut self.disk_faults)?;
         let bytes = bytes_from(&self.files, name, at);
         let most = bytes.len().min(buf.len());
         let given = shortened(most, self.short);
         buf[..given].copy_from_slice(&bytes[..given]);
-        if given < most {
-            self.short_reads = self.short_reads.saturating_add(1);
-        }
+        count_if(given < most, &mut self.short_reads);
         Ok(given)
     }
 
     fn create(&mut self, name: FileName) -> Result<(), HostFault> {
         self.turns.reserve(1).map_err(|_| HostFault::Memory)?;
-        let file = DiskFile::new(name, Vec::new(self.alloc));
         let ok = succeeds(&self.disk_fail, self.disk_calls);
-        self.files.push(file).map_err(|_| HostFault::Memory)?;
+        add(&mut self.files, name, Vec::new(self.alloc))?;
         note(&mut self.turns, Call::Create(name), self.asked);
         end_call(ok, &mut self.disk_calls, &mut self.disk_faults)
     }
 
     fn write(&mut self, name: FileName, at: u64, bytes: &[u8]) -> Result<(), HostFault> {
-        let kept = Vec::from_slice(self.alloc, bytes).map_err(|_| HostFault::Memory)?;
+        let kept = copy_of(self.alloc, bytes)?;
         self.turns.reserve(1).map_err(|_| HostFault::Memory)?;
         let ok = succeeds(&self.disk_fail, self.disk_calls);
         write_in(&mut self.files, name, at, bytes)?;
@@ -315,7 +371,7 @@ impl Host for MemoryHost {
     fn delete(&mut self, name: FileName) -> Result<(), HostFault> {
         self.turns.reserve(1).map_err(|_| HostFault::Memory)?;
         let ok = succeeds(&self.disk_fail, self.disk_calls);
-        self.files.retain(|file| !file.is_named(name));
+        remove(&mut self.files, name);
         note(&mut self.turns, Call::Delete(name), self.asked);
         end_call(ok, &mut self.disk_calls, &mut self.disk_faults)
     }
@@ -328,7 +384,7 @@ impl Host for MemoryHost {
     }
 
     fn say(&mut self, bytes: &[u8]) -> Result<(), HostFault> {
-        let kept = Vec::from_slice(self.alloc, bytes).map_err(|_| HostFault::Memory)?;
+        let kept = copy_of(self.alloc, bytes)?;
         self.turns.reserve(1).map_err(|_| HostFault::Memory)?;
         let ok = succeeds(&self.say_fail, self.says);
         speak(&mut self.said, ok, bytes)?;

@@ -16,9 +16,9 @@ pub returns-in-Some-clause-written : goal.returns-in-Some-clause-written
 returns-in-Some-clause-written c =
     let place = rw c.deref.ensures.value at c.in-Some.ensures in
     MatchResult-weaker c.overwrite.result c.overwrite.ensures.written
-        (λ _ is. ap (λ v. slice_set c.args.files.now.items c.in-Some.i v) is
-            ∙ writes_at c.args.name c.args.files.now.items c.in-Some.i c.index_mut.result.now c.args.at c.args.bytes.now place c.index_mut.ensures.value c.requires)
-        (λ _ top. top)
+    (λ _ is. ap (λ v. slice_set c.args.files.now.items c.in-Some.i v) is
+    ∙ writes_at c.args.name c.args.files.now.items c.in-Some.i c.index_mut.result.now c.args.at c.args.bytes.now place c.index_mut.ensures.value c.requires)
+    (λ _ top. top)
 
 pub returns-in-None-clause-written : goal.returns-in-None-clause-written
 returns-in-None-clause-written c =
