@@ -1,5 +1,6 @@
 pub mod Apart
 pub mod Calls
+pub mod DiskFacts
 pub mod Looks
 pub mod OneMore
 pub mod Places

@@ -3,11 +3,13 @@
 #![tactic(auto)]
 
 mod disk_file;
+mod facts;
 mod host;
 mod source;
 mod turns;
 
 pub use disk_file::DiskFile;
+pub use facts::{reads_are_left, synced_bytes_stay, synced_file_reads, synced_names_read};
 pub use host::MemoryHost;
 pub use source::MemorySource;
 pub use turns::{Call, Turn};
