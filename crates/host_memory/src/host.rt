@@ -7,6 +7,7 @@ ghost use Rattle.cache_disk.specs.declared.host.HostFault.TheVariants.{Failed, M
 ghost use Rattle.host_memory.specs.Files.{are_named_apart, written, without};
 ghost use Rattle.host_memory.specs.History.{begun, counted, fails_next, memory_state, words};
 
+use crate::directory::{add, bytes_from, copies, copy_of, file_named, names_of, remove, size_of_file, write_in};
 use crate::turns::note;
 use crate::{Call, DiskFile, Turn};
 use cache_disk::{Host, HostFault};
@@ -128,54 +129,6 @@ impl MemoryHost {
     }
 }
 
-// The same files.
-fn copies(alloc: Global, files: &[DiskFile]) -> Result<Vec<DiskFile>, HostFault>
-    ensures same { IfOk result (λ copies. copies.items ≡ files.now) }
-    ensures memory { IfErr result (λ fault. fault ≡ Memory) }
-{
-    let mut copies = Vec::new(alloc);
-    for file in files {
-        copies
-            .push(file.copy(alloc)?)
-            .map_err(|_| HostFault::Memory)?;
-    }
-    Ok(copies)
-}
-
-// The names of the files.
-fn names_of(alloc: Global, files: &[DiskFile]) -> Result<Vec<FileName>, HostFault>
-    ensures names { IfOk result (λ names. names.items ≡ map (λ file. file.0) files.now) }
-    ensures memory { IfErr result (λ fault. fault ≡ Memory) }
-{
-    let mut names = Vec::new(alloc);
-    for file in files {
-        names.push(file.name()).map_err(|_| HostFault::Memory)?;
-    }
-    Ok(names)
-}
-
-// The first file of this name.
-fn file_named(files: &[DiskFile], name: FileName) -> Option<&DiskFile>
-    ensures { option_map (λ file. file.now.1) result ≡ file_in files.now name }
-{
-    for file in files {
-        if file.is_named(name) {
-            return Some(file);
-        }
-    }
-    None
-}
-
-// The length of a file. None where there is no such file.
-fn size_of_file(files: &[DiskFile], name: FileName) -> Option<u64>
-    ensures { result ≡ option_map (λ bytes. length bytes) (file_in files.now name) }
-{
-    match file_named(files, name) {
-        Some(file) => Some(file.bytes().len() as u64),
-        None => None,
-    }
-}
-
 // The number of bytes, or the limit where it isn't 0 and less.
 fn shortened(count: usize, limit: u64) -> usize
     ensures within { result ≤ count }
@@ -186,74 +139,6 @@ fn shortened(count: usize, limit: u64) -> usize
     } else {
         limit as usize
     }
-}
-
-// The bytes of a file from an offset on, none where there is no such file.
-fn bytes_from(files: &[DiskFile], name: FileName, at: u64) -> &[u8]
-    ensures { result.now ≡ drop at (bytes_in files.now name) }
-{
-    match file_named(files, name) {
-        Some(file) => {
-            let bytes = file.bytes();
-            if at < bytes.len() as u64 {
-                &bytes[at as usize..]
-            } else {
-                &[]
-            }
-        }
-        None => &[],
-    }
-}
-
-// The place of the first file of this name.
-fn place_of(files: &[DiskFile], name: FileName) -> Option<usize>
-    ensures { result ≡ position (λ file. is_name name file.0) files.now }
-{
-    files.iter().position(|file| file.is_named(name))
-}
-
-// Writes the bytes at an offset of a file. After an `Err` the files are as they were.
-fn write_in(
-    files: &mut Vec<DiskFile>,
-    name: FileName,
-    at: u64,
-    bytes: &[u8],
-) -> Result<(), HostFault>
-    requires { at ≤ length (bytes_in files.old.items name) }
-    ensures written { OnOk result (files.new.items ≡ written name at bytes.now files.old.items) }
-    ensures same { OnErr result (files.new.items ≡ files.old.items) }
-    ensures memory { IfErr result (λ fault. fault ≡ Memory) }
-{
-    match place_of(files, name) {
-        Some(i) => files[i].overwrite(at as usize, bytes),
-        None => Ok(()),
-    }
-}
-
-// The same bytes.
-fn copy_of(alloc: Global, bytes: &[u8]) -> Result<Vec<u8>, HostFault>
-    ensures same { IfOk result (λ copy. copy.items ≡ bytes.now) }
-    ensures memory { IfErr result (λ fault. fault ≡ Memory) }
-{
-    Vec::from_slice(alloc, bytes).map_err(|_| HostFault::Memory)
-}
-
-// Adds a file. After an `Err` the files are as they were.
-fn add(files: &mut Vec<DiskFile>, name: FileName, bytes: Vec<u8>) -> Result<(), HostFault>
-    ensures added { OnOk result (files.new.items ≡ files.old.items ++ (name, bytes.items) ∷ []) }
-    ensures same { OnErr result (files.new.items ≡ files.old.items) }
-    ensures memory { IfErr result (λ fault. fault ≡ Memory) }
-{
-    files
-        .push(DiskFile::new(name, bytes))
-        .map_err(|_| HostFault::Memory)
-}
-
-// Takes the file of this name away.
-fn remove(files: &mut Vec<DiskFile>, name: FileName)
-    ensures { files.new.items ≡ without name files.old.items }
-{
-    files.retain(|file| !file.is_named(name));
 }
 
 // Whether the next of the calls is to succeed.

@@ -2,6 +2,7 @@
 //! that are short, and the files that a crash at any turn may leave.
 #![tactic(auto)]
 
+mod directory;
 mod disk_file;
 mod facts;
 mod host;

@@ -5,7 +5,7 @@ use Rattle.std.specs.List.{slice_set}
 use Rattle.cache_model.specs.Files.{is_name}
 use Rattle.host_memory.proofs.Places.{put_nowhere, no_place}
 use Rattle.host_memory.proofs.Writes.{room_at, writes_at}
-use Rattle.host_memory.proofs.host.write_in.Goals as goal
+use Rattle.host_memory.proofs.directory.write_in.Goals as goal
 
 pub overwrite-requires : goal.overwrite-requires
 overwrite-requires c =
