@@ -25,6 +25,9 @@ range_from Log store id is = grind (arith, common_steps)
 range_from Tree store id is = grind (arith, common_steps)
 range_from Base store id is = grind (arith, common_steps)
 
+pub is_named : (name : FileName) → IsFileName name → IsTrue (is_file_name name)
+is_named name named = passes_range name.kind name.store name.id named
+
 both : (a b c : Bool) → (a && b && c) ≡ true → (a ≡ true) × (b ≡ true) × (c ≡ true)
 both true true true h = (refl, refl, refl)
 both true true false h = (refl, refl, h)

@@ -1,5 +1,5 @@
 -- Each call of the host, by what it did to the record.
-use Rattle.std.proofs.Common.{◌≡◌, ◌∙◌, sym, ap, subst, refl, ℕ, ◌≤◌, Bool, true, false, not, List, [], ◌++◌, length, Option, Some, None, option_map, is_some, Result, Ok, Err, OnOk, OnErr, IsTrue, if◌then◌else◌, rules}
+use Rattle.std.proofs.Common.{◌≡◌, ◌∷◌, ◌∙◌, sym, ap, subst, refl, ℕ, ◌≤◌, Bool, true, false, not, List, [], ◌++◌, length, Option, Some, None, option_map, is_some, Result, Ok, Err, OnOk, OnErr, IsTrue, if◌then◌else◌, rules}
 use Rattle.cache_model.specs.declared.files.FileName.{FileName}
 use Rattle.cache_model.specs.Files.{Image, file_in, bytes_in, is_name}
 use Rattle.cache_disk.specs.State.{HostState, SameFiles, Moves}
@@ -10,6 +10,7 @@ use Rattle.std.specs.declared.alloc.Global.{Global}
 use Rattle.std.specs.Prelude.{Vec}
 use Rattle.host_memory.specs.declared.turns.Call.TheVariants.{Create, Write, Sync, Delete, SyncNames, Say}
 use Rattle.host_memory.specs.declared.turns.Turn.{Turn}
+use Rattle.host_memory.specs.Crashes.{AreWellNamed, is_well_named}
 use Rattle.host_memory.specs.Files.{are_named_apart, written, written_over}
 use Rattle.host_memory.specs.History.{History, memory_state, counted, fails_next, Fits}
 use Rattle.host_memory.specs.ReadsNow.{is_made, makes, unmakes, gone_without, tears, lookup_put}
@@ -24,13 +25,19 @@ still_none fail calls faults faults_then ok is counts none empty =
     let same : faults_then ≡ faults = counts ∙ ap (λ b. if b then faults else counted faults) sure in
     same ∙ none empty
 
+named_more : (turns : List Turn) (turn : Turn) → AreWellNamed turns → IsTrue (is_well_named turn.call) → AreWellNamed (turns ++ turn ∷ [])
+named_more [] turn all named = (named, tt)
+named_more (first ∷ turns) turn all named = (all.0, named_more turns turn all.1 named)
+
 -- what is kept beside the record fits it after a turn
 pub fits_then : (old new : History) (turn : Turn) (files files_now : Image) (said said_now : List ℕ) → Fits old files said → Took old new turn
-    → files_now ≡ after turn.call files → IsTrue (are_named_apart files_now) → said_now ≡ said ++ words_of turn.call
+    → files_now ≡ after turn.call files → IsTrue (are_named_apart files_now) → IsTrue (is_well_named turn.call) → said_now ≡ said ++ words_of turn.call
     → (new.disk_fail ≡ [] → new.disk_faults ≡ 0) → (new.say_fail ≡ [] → new.say_faults ≡ 0) → Fits new files_now said_now
-fits_then old new turn files files_now said said_now fits took files_are apart said_is no_disk no_say = record {
+fits_then old new turn files files_now said said_now fits took files_are apart named said_is no_disk no_say = record {
   read = files_are ∙ ap (after turn.call) fits.read ∙ sym (files_then old new turn took);
   apart = apart;
+  first_apart = (let P : Image → Type 0 = λ initial. IsTrue (are_named_apart initial) in subst P (sym took.initial) fits.first_apart);
+  named = subst AreWellNamed (sym took.turns) (named_more old.turns turn fits.named named);
   spoken = said_is ∙ ap (λ said. said ++ words_of turn.call) fits.spoken ∙ sym (words_more [] old.turns turn) ∙ sym (ap (words_since []) took.turns);
   no_disk_faults = no_disk;
   no_say_faults = no_say;

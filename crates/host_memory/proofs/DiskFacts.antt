@@ -1,16 +1,15 @@
 -- Why each fact of the disk model holds: by what each turn does to an image.
-use Rattle.std.proofs.Common.{◌≡◌, ◌∙◌, sym, ap, subst, refl, ℕ, ◌+◌, ◌-◌, ◌<◌, ◌≤◌, ◌⊎◌, ◌↔◌, inl, inr, max, Bool, true, false, not, if◌then◌else◌, List, [], ◌∷◌, ◌++◌, length, take, drop, get_or, Option, Some, None, option_map, IsSome, is_some, arith, get_or-take, get_or-drop}
+use Rattle.std.proofs.Common.{◌≡◌, ◌∙◌, sym, ap, subst, refl, ℕ, ◌+◌, ◌-◌, ◌<◌, ◌≤◌, ◌⊎◌, ◌↔◌, inl, inr, Bool, true, false, List, [], ◌∷◌, ◌++◌, length, get_or, Option, Some, None, IsSome, is_some, arith, get_or-take, get_or-drop}
 use Rattle.std.proofs.lemmas.Grind.{common_steps}
 use Rattle.std.specs.Prelude.{Vec}
 use Rattle.std.specs.declared.alloc.Global.{Global}
 use Rattle.cache_model.specs.declared.files.FileName.{FileName}
 use Rattle.cache_model.specs.Files.{Image, file_in, is_name}
-use Rattle.cache_disk.specs.State.{SameFiles, SameBut}
-use Rattle.cache_disk.specs.Calls.{Makes, Unmakes, Tears, Torn, IsTornFrom, Stays, Settles, HasNames}
+use Rattle.cache_disk.specs.Calls.{Torn, IsTornFrom, Stays, Settles, HasNames}
 use Rattle.host_memory.specs.declared.turns.Call.{Call}
 use Rattle.host_memory.specs.declared.turns.Call.TheVariants.{Create, Write, Sync, Delete, SyncNames, Say}
 use Rattle.host_memory.specs.declared.turns.Turn.{Turn}
-use Rattle.host_memory.specs.Facts.{renames, writes, KeepsName, KeepsBytes, IsOutsideOf, IsOutside, length_after, written_length, DiffersInside, IsAbsentOr}
+use Rattle.host_memory.specs.Facts.{renames, writes, KeepsName, KeepsBytes, IsOutsideOf, length_after, written_length, DiffersInside, IsAbsentOr}
 use Rattle.host_memory.specs.NamesDecide.{same_name}
 use Rattle.host_memory.specs.ReadsNow.{leads_now}
 use Rattle.host_memory.specs.Turns.{after, Steps, Syncs, replayed, Leads, MayBeLeft}
@@ -70,10 +69,15 @@ grows name (Say bytes ok) n = omega arith
 
 torn_follows : (name other : FileName) (at : ℕ) (bytes : Vec ℕ Global) (old new : Option (List ℕ)) → is_name other name ≡ true → IsTornFrom at (length bytes.items) old new → Follows name (Write other at bytes) old new
 torn_follows name other at bytes None new is torn = torn
-torn_follows name other at bytes (Some old) new is torn = (torn.0, torn.1, record {
-  no_shorter = torn.2.no_shorter;
-  no_longer = rw is torn.2.no_longer;
-  outside = λ i d out. torn_outside at (length bytes.items) old torn.0 i d torn.2 (out is) })
+torn_follows name other at bytes (Some old) new is torn = (
+  torn.0,
+  torn.1,
+  record {
+    no_shorter = torn.2.no_shorter;
+    no_longer = rw is torn.2.no_longer;
+    outside = λ i d out. torn_outside at (length bytes.items) old torn.0 i d torn.2 (out is);
+  },
+)
 
 follows : (files : Image) (call : Call) (name : FileName) (old new : Image) → renames name call ≡ false → Steps files call old new → Follows name call (file_in old name) (file_in new name)
 follows files (Write other at bytes) name old new keeps step = by (is_name other name) refl
@@ -109,11 +113,15 @@ differs files [] name from to synced keeps is there = (synced, ap (λ image. fil
 differs files (turn ∷ turns) name from to synced keeps (next, step, leads) there =
     let F : Option (List ℕ) → Type 0 = λ found. Follows name turn.call found (file_in next name) in
     let first = subst F there (follows files turn.call name from next keeps.0 step) in
-    let rest = differs (after turn.call files) turns name next to first.0 keeps.1 leads first.1 in
-    (rest.0, rest.1, record {
-      no_shorter = omega (arith, first.2.no_shorter, rest.2.no_shorter);
-      no_longer = omega (arith, rest.2.no_longer, monotone name turns (length first.0) (length_after name (length synced) turn.call) first.2.no_longer);
-      outside = λ i d out. rest.2.outside i d out.1 ∙ first.2.outside i d out.0 })
+    let rest = differs (after turn.call files) turns name next to first.0 keeps.1 leads first.1 in (
+      rest.0,
+      rest.1,
+      record {
+        no_shorter = omega (arith, first.2.no_shorter, rest.2.no_shorter);
+        no_longer = omega (arith, rest.2.no_longer, monotone name turns (length first.0) (length_after name (length synced) turn.call) first.2.no_longer);
+        outside = λ i d out. rest.2.outside i d out.1 ∙ first.2.outside i d out.0;
+      },
+    )
 
 stays_away : (files : Image) (turns : List Turn) (name : FileName) (from to : Image) → KeepsName name turns → Leads files turns from to → file_in from name ≡ None → file_in to name ≡ None
 stays_away files [] name from to keeps is none = ap (λ image. file_in image name) is ∙ none

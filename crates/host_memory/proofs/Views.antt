@@ -6,6 +6,7 @@ use Rattle.host_memory.specs.contracts.host.MemoryHost.{the_view}
 use Rattle.host_memory.specs.declared.host.MemoryHost.TheInside.{Inside}
 use Rattle.host_memory.specs.declared.turns.Call.{Call}
 use Rattle.host_memory.specs.declared.turns.Turn.{Turn}
+use Rattle.host_memory.specs.Crashes.{is_well_named}
 use Rattle.host_memory.specs.Files.{are_named_apart}
 use Rattle.host_memory.specs.History.{History, counted, fails_next, Fits}
 use Rattle.host_memory.specs.Turns.{after, words_of, replayed}
@@ -48,23 +49,23 @@ took_say inside room turns call calls faults noted same = record {
 
 pub fits_disk : (inside : Inside) (room turns : List Turn) (call : Call) (calls faults : ℕ) (ok : Bool) (files : Image) → Fits (seen inside) inside.files.items inside.said.items
     → turns ≡ room ++ turn_of inside call ∷ [] → room ≡ inside.turns.items → words_of call ≡ []
-    → files ≡ after call inside.files.items → IsTrue (are_named_apart files)
+    → files ≡ after call inside.files.items → IsTrue (are_named_apart files) → IsTrue (is_well_named call)
     → ok ≡ not (fails_next inside.disk_fail.items inside.disk_calls) → faults ≡ (if ok then inside.disk_faults else counted inside.disk_faults)
     → Fits (disk_turn inside turns calls faults) files inside.said.items
-fits_disk inside room turns call calls faults ok files fits noted same silent files_are apart is counts =
+fits_disk inside room turns call calls faults ok files fits noted same silent files_are apart named is counts =
     fits_then (seen inside) (disk_turn inside turns calls faults) (turn_of inside call) inside.files.items files inside.said.items inside.said.items fits
-    (took_disk inside room turns call calls faults noted same) files_are apart (sym (append-nil inside.said.items) ∙ ap (λ words. inside.said.items ++ words) (sym silent))
+    (took_disk inside room turns call calls faults noted same) files_are apart named (sym (append-nil inside.said.items) ∙ ap (λ words. inside.said.items ++ words) (sym silent))
     (still_none inside.disk_fail.items inside.disk_calls inside.disk_faults faults ok is counts fits.no_disk_faults)
     fits.no_say_faults
 
 pub fits_say : (inside : Inside) (room turns : List Turn) (call : Call) (calls faults : ℕ) (ok : Bool) (said : List ℕ) → Fits (seen inside) inside.files.items inside.said.items
     → turns ≡ room ++ turn_of inside call ∷ [] → room ≡ inside.turns.items → said ≡ inside.said.items ++ words_of call
-    → inside.files.items ≡ after call inside.files.items
+    → inside.files.items ≡ after call inside.files.items → IsTrue (is_well_named call)
     → ok ≡ not (fails_next inside.say_fail.items inside.says) → faults ≡ (if ok then inside.say_faults else counted inside.say_faults)
     → Fits (say_turn inside turns calls faults) inside.files.items said
-fits_say inside room turns call calls faults ok said fits noted same said_is stays is counts =
+fits_say inside room turns call calls faults ok said fits noted same said_is stays named is counts =
     fits_then (seen inside) (say_turn inside turns calls faults) (turn_of inside call) inside.files.items inside.files.items inside.said.items said fits
-    (took_say inside room turns call calls faults noted same) stays fits.apart said_is fits.no_disk_faults
+    (took_say inside room turns call calls faults noted same) stays fits.apart named said_is fits.no_disk_faults
     (still_none inside.say_fail.items inside.says inside.say_faults faults ok is counts fits.no_say_faults)
 
 -- a file that isn't read isn't kept

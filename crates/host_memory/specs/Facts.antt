@@ -83,20 +83,20 @@ ReadsAreLeft = (host : History) → (memory_state host).left (memory_state host)
 -- has what was synced outside of the ranges written since, and is as long as synced at least, and as written at most.
 abbrev pub SyncedBytesStay : Type 0
 SyncedBytesStay = (files : Image) (before since : List Turn) (asked : ℕ) (name : FileName) (synced : List ℕ) (image : Image)
-  → file_in (replayed files before) name ≡ Some synced → KeepsName name since
-  → MayBeLeft files (before ++ record { call = Sync name true; asked = asked } ∷ since) image
-  → IsAbsentOr (DiffersInside name since synced) (file_in image name)
+    → file_in (replayed files before) name ≡ Some synced → KeepsName name since
+    → MayBeLeft files (before ++ record { call = Sync name true; asked = asked } ∷ since) image
+    → IsAbsentOr (DiffersInside name since synced) (file_in image name)
 
 -- From a sync that succeeded to the next write to the file, each image that has the file has it as it reads.
 abbrev pub SyncedFileReads : Type 0
 SyncedFileReads = (files : Image) (before since : List Turn) (asked : ℕ) (name : FileName) (image : Image)
-  → KeepsName name since → KeepsBytes name since
-  → MayBeLeft files (before ++ record { call = Sync name true; asked = asked } ∷ since) image
-  → (file_in image name ≡ None) ⊎ (file_in image name ≡ file_in (replayed files (before ++ record { call = Sync name true; asked = asked } ∷ since)) name)
+    → KeepsName name since → KeepsBytes name since
+    → MayBeLeft files (before ++ record { call = Sync name true; asked = asked } ∷ since) image
+    → (file_in image name ≡ None) ⊎ (file_in image name ≡ file_in (replayed files (before ++ record { call = Sync name true; asked = asked } ∷ since)) name)
 
 -- A name that wasn't made or deleted since the last sync of the names that succeeded is there as it reads.
 abbrev pub SyncedNamesRead : Type 0
 SyncedNamesRead = (files : Image) (before since : List Turn) (asked : ℕ) (name : FileName) (image : Image)
-  → KeepsName name since
-  → MayBeLeft files (before ++ record { call = SyncNames true; asked = asked } ∷ since) image
-  → (IsSome (file_in image name) ↔ IsSome (file_in (replayed files (before ++ record { call = SyncNames true; asked = asked } ∷ since)) name))
+    → KeepsName name since
+    → MayBeLeft files (before ++ record { call = SyncNames true; asked = asked } ∷ since) image
+    → (IsSome (file_in image name) ↔ IsSome (file_in (replayed files (before ++ record { call = SyncNames true; asked = asked } ∷ since)) name))

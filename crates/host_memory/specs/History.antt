@@ -4,6 +4,7 @@ use Rattle.std.specs.List.{list_any}
 use Rattle.cache_model.specs.Files.{Image}
 use Rattle.cache_disk.specs.State.{HostState}
 use Rattle.host_memory.specs.declared.turns.Turn.{Turn}
+use Rattle.host_memory.specs.Crashes.{AreWellNamed}
 use Rattle.host_memory.specs.Files.{are_named_apart}
 use Rattle.host_memory.specs.Turns.{replayed, MayBeLeft, said_since, words_since, out_since, asked_by}
 
@@ -72,6 +73,9 @@ words host = words_since [] host.turns
 pub record Fits (host : History) (files : Image) (said : List ℕ) : Type 0 where
   pub read : files ≡ replayed host.initial host.turns
   pub apart : IsTrue (are_named_apart files)
+  -- the files at the start and those that were made have names that files have, and no two of the first have one name
+  pub first_apart : IsTrue (are_named_apart host.initial)
+  pub named : AreWellNamed host.turns
   pub spoken : said ≡ words host
   -- where no call is to fail, none did
   pub no_disk_faults : host.disk_fail ≡ [] → host.disk_faults ≡ 0

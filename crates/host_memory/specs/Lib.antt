@@ -1,3 +1,4 @@
+pub mod Crashes
 pub mod Facts
 pub mod Files
 pub mod History

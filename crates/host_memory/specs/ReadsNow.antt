@@ -59,7 +59,7 @@ makes name files = record {
 front : (at : ℕ) (bytes old : List ℕ) → at ≤ length old → length (take at old ++ bytes) ≡ at + length bytes
 front at bytes old room = omega (arith, length-append (take at old) bytes, length-take at old)
 
-torn_inside : (at : ℕ) (bytes old : List ℕ) → at ≤ length old → Torn at (length bytes) old (overwritten old at bytes)
+pub torn_inside : (at : ℕ) (bytes old : List ℕ) → at ≤ length old → Torn at (length bytes) old (overwritten old at bytes)
 torn_inside at bytes old room =
     let before : length (take at old) ≡ at = omega (arith, length-take at old) in
     let long : length (overwritten old at bytes) ≡ at + length bytes + (length old - (at + length bytes)) = omega (arith, front at bytes old room, length-append (take at old ++ bytes) (drop (at + length bytes) old), length-drop (at + length bytes) old) in
@@ -72,7 +72,7 @@ torn_inside at bytes old room =
       no_longer = omega (arith, long);
     }
 
-untorn : (at n : ℕ) (old : List ℕ) → Torn at n old old
+pub untorn : (at n : ℕ) (old : List ℕ) → Torn at n old old
 untorn at n old = record { before = refl; after = refl; no_shorter = omega arith; no_longer = omega arith }
 
 torn_by : (at : ℕ) (bytes old : List ℕ) (inside : Bool) → nat_le at (length old) ≡ inside → Torn at (length bytes) old (if inside then overwritten old at bytes else old)
@@ -90,9 +90,13 @@ lookup_unput : (test other : FileName → Bool) (files : Image) (w : List ℕ) �
 lookup_unput test other [] w apart = refl
 lookup_unput test other (e ∷ es) w apart = grind (arith, lookup_unput test other es w apart, apart e.0)
 
+-- other files stay
+pub others_put : (name : FileName) (files : Image) (w : List ℕ) → SameBut name files (set_value (is_name name) files w)
+others_put name files w = λ other differs. lookup_unput (is_name name) (is_name other) files w (λ third is. flipped third other (ap (λ n. is_name n other) (sym (same_name name third is)) ∙ differs))
+
 pub tears : (name : FileName) (at : ℕ) (bytes : List ℕ) (files : Image) → Tears name at (length bytes) files (written name at bytes files)
 tears name at bytes files = record {
-  others = λ other differs. lookup_unput (is_name name) (is_name other) files _ (λ third is. flipped third other (ap (λ n. is_name n other) (sym (same_name name third is)) ∙ differs));
+  others = others_put name files _;
   torn = rw lookup_put (elim (file_in files name) as (λ found. IsTornFrom at (length bytes) found (option_map (λ _. written_over (unwrap_or found []) at bytes) found)) [
     | None ↦ refl
     | Some old ↦ (written_over old at bytes, refl, torn_over at bytes old)

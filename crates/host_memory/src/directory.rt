@@ -82,20 +82,19 @@ pub(crate) fn place_of(files: &[DiskFile], name: FileName) -> Option<usize>
     files.iter().position(|file| file.is_named(name))
 }
 
-// Writes the bytes at an offset of a file. After an `Err` the files are as they were.
+// Writes the bytes at an offset of a file, where that isn't above its size. After an `Err` the files are as they were.
 pub(crate) fn write_in(
     files: &mut Vec<DiskFile>,
     name: FileName,
     at: u64,
     bytes: &[u8],
 ) -> Result<(), HostFault>
-    requires { at ≤ length (bytes_in files.old.items name) }
     ensures written { OnOk result (files.new.items ≡ written name at bytes.now files.old.items) }
     ensures same { OnErr result (files.new.items ≡ files.old.items) }
     ensures memory { IfErr result (λ fault. fault ≡ Memory) }
 {
     match place_of(files, name) {
-        Some(i) => files[i].overwrite(at as usize, bytes),
+        Some(i) => files[i].write_over(at, bytes),
         None => Ok(()),
     }
 }
@@ -109,7 +108,11 @@ pub(crate) fn copy_of(alloc: Global, bytes: &[u8]) -> Result<Vec<u8>, HostFault>
 }
 
 // Adds a file. After an `Err` the files are as they were.
-pub(crate) fn add(files: &mut Vec<DiskFile>, name: FileName, bytes: Vec<u8>) -> Result<(), HostFault>
+pub(crate) fn add(
+    files: &mut Vec<DiskFile>,
+    name: FileName,
+    bytes: Vec<u8>,
+) -> Result<(), HostFault>
     ensures added { OnOk result (files.new.items ≡ files.old.items ++ (name, bytes.items) ∷ []) }
     ensures same { OnErr result (files.new.items ≡ files.old.items) }
     ensures memory { IfErr result (λ fault. fault ≡ Memory) }
@@ -124,4 +127,11 @@ pub(crate) fn remove(files: &mut Vec<DiskFile>, name: FileName)
     ensures { files.new.items ≡ without name files.old.items }
 {
     files.retain(|file| !file.is_named(name));
+}
+
+// Whether two names are the same.
+pub(crate) fn is_same(one: FileName, other: FileName) -> bool
+    ensures { result ≡ is_name one other }
+{
+    one.kind as u8 == other.kind as u8 && one.store == other.store && one.id == other.id
 }

@@ -1,7 +1,8 @@
 // A file as it stands in a directory: its name and its bytes.
 ghost use Rattle.std.specs.Prelude.{◌≡◌, ◌≤◌, length, OnOk, OnErr, IfOk, IfErr};
 ghost use Rattle.cache_model.specs.Files.{is_name};
-ghost use Rattle.cache_disk.specs.Calls.{overwritten};
+ghost use Rattle.cache_disk.specs.Calls.{overwritten, Torn};
+ghost use Rattle.host_memory.specs.Files.{written_over};
 ghost use Rattle.cache_disk.specs.declared.host.HostFault.TheVariants.{Memory};
 
 use cache_disk::HostFault;
@@ -81,5 +82,29 @@ impl DiskFile {
             .map_err(|_| HostFault::Memory)?;
         self.bytes[at..at + inside].copy_from_slice(&bytes[..inside]);
         Ok(())
+    }
+
+    // The same, where the offset isn't above the length; else it stays.
+    pub(crate) fn write_over(&mut self, at: u64, bytes: &[u8]) -> Result<(), HostFault>
+        ensures written { OnOk result (self.new ≡ (self.old.0, written_over self.old.1 at bytes.now)) }
+        ensures same { OnErr result (self.new ≡ self.old) }
+        ensures memory { IfErr result (λ fault. fault ≡ Memory) }
+    {
+        if at > self.bytes.len() as u64 {
+            return Ok(());
+        }
+        self.overwrite(at as usize, bytes)
+    }
+
+    // A write of so many bytes that a crash cuts short: as much of the target as there is in the range.
+    pub(crate) fn tear(&mut self, at: u64, count: usize, target: &[u8]) -> Result<(), HostFault>
+        ensures torn { OnOk result ((self.new.0 ≡ self.old.0) × Torn at count self.old.1 self.new.1) }
+        ensures memory { IfErr result (λ fault. fault ≡ Memory) }
+    {
+        let end = at.saturating_add(count as u64).min(target.len() as u64);
+        if at > self.bytes.len() as u64 || at > end {
+            return Ok(());
+        }
+        self.overwrite(at as usize, &target[at as usize..end as usize])
     }
 }

@@ -7,7 +7,11 @@ ghost use Rattle.cache_disk.specs.declared.host.HostFault.TheVariants.{Failed, M
 ghost use Rattle.host_memory.specs.Files.{are_named_apart, written, without};
 ghost use Rattle.host_memory.specs.History.{begun, counted, fails_next, memory_state, words};
 
-use crate::directory::{add, bytes_from, copies, copy_of, file_named, names_of, remove, size_of_file, write_in};
+use crate::crash::crashed;
+use crate::directory::{
+    add, bytes_from, copies, copy_of, file_named, names_of, remove, size_of_file, write_in,
+};
+use crate::picks::picks_of;
 use crate::turns::note;
 use crate::{Call, DiskFile, Turn};
 use cache_disk::{Host, HostFault};
@@ -126,6 +130,26 @@ impl MemoryHost {
         ensures { result ≡ (memory_state self.now).turn }
     {
         self.turns.len() as u64
+    }
+
+    /// The files that a crash after so many turns leaves, by choice.
+    ///
+    /// With 0 the names are as when they were synced last, and the bytes as synced. With 1 all is as it reads. With 2
+    /// each name that was made or deleted since is there, and each byte that was written since is 0, with 3 it is 1, at
+    /// the written length. A greater choice draws a number for each such name, for the length of each such file and for
+    /// each such byte in it, in the order of the files' kinds, stores and ids: x starts as the choice, and before each
+    /// draw it becomes x * 6364136223846793005 + 1442695040888963407 modulo 2^64. A name is there by the uppermost bit, a
+    /// byte is the uppermost one, and the length is the synced one and the uppermost 32 bits modulo the number of lengths
+    /// up to the written one. For a file that isn't there no more is drawn.
+    pub fn image_at(&self, turn: u64, choice: u64) -> Result<Vec<DiskFile>, HostFault>
+        requires { turn ≤ (memory_state self.now).turn }
+        ensures left { IfOk result (λ files. (memory_state self.now).left turn files.items) }
+        ensures apart { IfOk result (λ files. IsTrue (are_named_apart files.items)) }
+        ensures memory { IfErr result (λ fault. fault ≡ Memory) }
+    {
+        let turns = &self.turns[..turn as usize];
+        let picks = picks_of(self.alloc, &self.initial, turns, choice)?;
+        crashed(self.alloc, &self.initial, turns, &picks)
     }
 }
 

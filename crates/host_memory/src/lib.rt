@@ -2,10 +2,12 @@
 //! that are short, and the files that a crash at any turn may leave.
 #![tactic(auto)]
 
+mod crash;
 mod directory;
 mod disk_file;
 mod facts;
 mod host;
+mod picks;
 mod source;
 mod turns;
 

@@ -2,7 +2,7 @@ use Rattle.std.proofs.Common.{◌∙◌, ap, refl, sym, not, ◌++◌, ◌∷◌
 use Rattle.cache_model.specs.Files.{Image}
 use Rattle.host_memory.specs.History.{fails_next}
 use Rattle.host_memory.specs.declared.turns.Call.TheVariants.{Create}
-use Rattle.host_memory.proofs.Apart.{without_absent, apart_made}
+use Rattle.host_memory.proofs.Apart.{without_absent, apart_made, is_named}
 use Rattle.host_memory.proofs.Calls.{created}
 use Rattle.host_memory.proofs.Views.{seen, disk_turn, took_disk, fits_disk, absent_in}
 use Rattle.host_memory.proofs.host.MemoryHostHost.create.Goals as goal
@@ -17,7 +17,7 @@ invariant_of-self-2 c =
     c.self.invariant c.note.ensures c.reserve.ensures.items refl
     (added ∙ ap (λ (files : Image). files ++ (c.args.name, []) ∷ []) (sym (without_absent c.args.name inside.files.items absent)))
     (rw added (apart_made c.args.name inside.files.items c.requires.name c.self.invariant.apart absent))
-    is c.end_call.ensures.faults
+    (is_named c.args.name c.requires.name) is c.end_call.ensures.faults
 
 pub returns-clause-told : goal.returns-clause-told
 returns-clause-told c told =

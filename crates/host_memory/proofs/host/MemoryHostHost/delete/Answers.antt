@@ -12,7 +12,7 @@ invariant_of-self-2 c =
     let is = c.succeeds-ok.ensures ∙ ap (λ fail. not (fails_next fail inside.disk_calls)) c.deref.ensures.value in
     fits_disk inside c.reserve.new.self.items c.note.new.turns.items (Delete c.args.name) c.end_call.new.calls c.end_call.new.faults c.succeeds-ok.result c.remove.new.files.items
     c.self.invariant c.note.ensures c.reserve.ensures.items refl
-    c.remove.ensures (rw c.remove.ensures (apart_without c.args.name inside.files.items c.self.invariant.apart)) is c.end_call.ensures.faults
+    c.remove.ensures (rw c.remove.ensures (apart_without c.args.name inside.files.items c.self.invariant.apart)) refl is c.end_call.ensures.faults
 
 pub returns-clause-told : goal.returns-clause-told
 returns-clause-told c told =

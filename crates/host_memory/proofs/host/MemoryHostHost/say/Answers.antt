@@ -21,7 +21,7 @@ invariant_of-self-2 c =
     let h = c.in_ok-speak.ensures.said in
     let kept = c.in_ok-kept.ensures.same in
     fits_say inside c.reserve.new.self.items c.note.new.turns.items (Say c.in_ok-kept.kept c.succeeds-ok.result) c.end_call.new.calls c.end_call.new.faults c.succeeds-ok.result c.speak.new.said.items
-    c.self.invariant c.note.ensures c.reserve.ensures.items (h ∙ ap (λ words. inside.said.items ++ words) (ap (λ bytes. if c.succeeds-ok.result then bytes else []) (sym kept) ∙ spoken c.in_ok-kept.kept c.succeeds-ok.result)) refl is c.end_call.ensures.faults
+    c.self.invariant c.note.ensures c.reserve.ensures.items (h ∙ ap (λ words. inside.said.items ++ words) (ap (λ bytes. if c.succeeds-ok.result then bytes else []) (sym kept) ∙ spoken c.in_ok-kept.kept c.succeeds-ok.result)) refl refl is c.end_call.ensures.faults
 
 pub returns-clause-told : goal.returns-clause-told
 returns-clause-told c told =

@@ -10,7 +10,7 @@ invariant_of-self-2 c =
     let inside = c.self.inside in
     let is = c.succeeds-ok.ensures ∙ ap (λ fail. not (fails_next fail inside.disk_calls)) c.deref.ensures.value in
     fits_disk inside c.reserve.new.self.items c.note.new.turns.items (Sync c.args.name c.succeeds-ok.result) c.end_call.new.calls c.end_call.new.faults c.succeeds-ok.result inside.files.items
-    c.self.invariant c.note.ensures c.reserve.ensures.items refl refl c.self.invariant.apart is c.end_call.ensures.faults
+    c.self.invariant c.note.ensures c.reserve.ensures.items refl refl c.self.invariant.apart refl is c.end_call.ensures.faults
 
 pub returns-clause-told : goal.returns-clause-told
 returns-clause-told c told =

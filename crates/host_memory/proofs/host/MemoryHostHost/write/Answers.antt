@@ -17,7 +17,7 @@ invariant_of-self-2 c =
     let kept = c.in_ok-kept.ensures.same in
     fits_disk inside c.reserve.new.self.items c.note.new.turns.items (Write c.args.name c.args.at c.in_ok-kept.kept) c.end_call.new.calls c.end_call.new.faults c.succeeds-ok.result c.write_in.new.files.items
     c.self.invariant c.note.ensures c.reserve.ensures.items refl
-    (done ∙ ap (λ bytes. written c.args.name c.args.at bytes inside.files.items) (sym kept)) (rw done (apart_put _ inside.files.items _ c.self.invariant.apart)) is c.end_call.ensures.faults
+    (done ∙ ap (λ bytes. written c.args.name c.args.at bytes inside.files.items) (sym kept)) (rw done (apart_put _ inside.files.items _ c.self.invariant.apart)) refl is c.end_call.ensures.faults
 
 pub returns-clause-told : goal.returns-clause-told
 returns-clause-told c told =
