@@ -16,3 +16,6 @@ pub use facts::{reads_are_left, synced_bytes_stay, synced_file_reads, synced_nam
 pub use host::MemoryHost;
 pub use source::MemorySource;
 pub use turns::{Call, Turn};
+
+#[cfg(test)]
+mod tests;
