@@ -1,8 +1,10 @@
 -- What a host in memory is: how it began, and what was done since.
-use Rattle.std.specs.Prelude.{◌≡◌, ℕ, ◌+◌, ◌-◌, ◌^◌, min, Bool, List, [], length, take, Some, IsTrue, ◌==◌}
+use Rattle.std.specs.Prelude.{◌≡◌, ℕ, ◌+◌, ◌-◌, ◌^◌, min, Bool, false, true, Result, OnOk, IsErrOf, List, [], length, take, Some, IsTrue, ◌==◌, if◌then◌else◌}
 use Rattle.std.specs.List.{list_any}
 use Rattle.cache_model.specs.Files.{Image}
 use Rattle.cache_disk.specs.State.{HostState}
+use Rattle.cache_disk.specs.declared.host.HostFault.{HostFault}
+use Rattle.cache_disk.specs.declared.host.HostFault.TheVariants.{Failed, Memory}
 use Rattle.host_memory.specs.declared.turns.Turn.{Turn}
 use Rattle.host_memory.specs.Crashes.{AreWellNamed}
 use Rattle.host_memory.specs.Files.{are_named_apart}
@@ -35,6 +37,10 @@ counted count = min (count + 1) (2 ^ 64 - 1)
 abbrev pub fails_next : List ℕ → ℕ → Bool
 fails_next fail calls = list_any (λ number. number == counted calls) fail
 
+-- so many, or the limit where it isn't 0 and less
+abbrev pub limited : ℕ → ℕ → ℕ
+limited limit count = if limit == 0 then count else min count limit
+
 -- the host with no call made
 abbrev pub begun : Image → List ℕ → List ℕ → ℕ → History
 begun files disk_fail say_fail short = record {
@@ -50,6 +56,21 @@ begun files disk_fail say_fail short = record {
   say_faults = 0;
   short_reads = 0;
 }
+
+-- A call fails exactly where its number is among those that are to fail, if it doesn't want memory. Then it isn't counted.
+pub record IsNumbered {T : Type 0} (fail : List ℕ) (calls calls_then : ℕ) (result : Result T HostFault) : Type 0 where
+  pub ok : OnOk result (fails_next fail calls ≡ false)
+  pub failed : IsErrOf result Failed → fails_next fail calls ≡ true
+  pub ok_counts : OnOk result (calls_then ≡ counted calls)
+  pub failed_counts : IsErrOf result Failed → calls_then ≡ counted calls
+  pub memory : IsErrOf result Memory → calls_then ≡ calls
+
+-- both began with the same files, and have the same limits and failures to come
+pub record IsAlike (old new : History) : Type 0 where
+  pub initial : new.initial ≡ old.initial
+  pub disk_fail : new.disk_fail ≡ old.disk_fail
+  pub say_fail : new.say_fail ≡ old.say_fail
+  pub short : new.short ≡ old.short
 
 -- what the host stands for
 abbrev pub memory_state : History → HostState

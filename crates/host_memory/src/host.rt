@@ -1,11 +1,12 @@
 // A host in memory.
-ghost use Rattle.std.specs.Prelude.{◌≡◌, ◌+◌, ◌++◌, ◌∷◌, [], ℕ, List, if◌then◌else◌, length, min, map, drop, take, IfOk, IfErr, OnOk, OnErr, IsTrue, Some, Ok, Err, IsSome, option_map, option_copied, not, ◌≤◌, ◌<◌};
-ghost use Rattle.std.specs.List.{position};
-ghost use Rattle.cache_model.specs.Files.{Image, file_in, bytes_in, is_name};
+ghost use Rattle.std.specs.Prelude.{◌≡◌, ◌+◌, ◌-◌, ◌++◌, ◌∷◌, [], ℕ, List, if◌then◌else◌, length, min, map, drop, take, IfOk, IfErr, OnOk, OnErr, IsTrue, None, Some, Ok, Err, IsSome, option_map, option_copied, not, ◌≤◌, ◌<◌};
+ghost use Rattle.std.specs.List.{All};
+ghost use Rattle.cache_model.specs.Files.{Image, file_in, bytes_in, IsFileName};
+ghost use Rattle.cache_disk.specs.Calls.{DiskCause, SayCause, Listed, Sized, Read, Created, Wrote, Synced, Deleted, SyncedNames, Said};
 ghost use Rattle.cache_disk.specs.State.{SameFiles};
 ghost use Rattle.cache_disk.specs.declared.host.HostFault.TheVariants.{Failed, Memory};
 ghost use Rattle.host_memory.specs.Files.{are_named_apart, written, without};
-ghost use Rattle.host_memory.specs.History.{begun, counted, fails_next, memory_state, words};
+ghost use Rattle.host_memory.specs.History.{begun, counted, fails_next, memory_state, words, IsNumbered, IsAlike, limited};
 
 use crate::crash::crashed;
 use crate::directory::{
@@ -155,6 +156,7 @@ impl MemoryHost {
 
 // The number of bytes, or the limit where it isn't 0 and less.
 fn shortened(count: usize, limit: u64) -> usize
+    ensures exact { result ≡ limited limit count }
     ensures within { result ≤ count }
     ensures some { 0 < count → 0 < result }
 {
@@ -228,20 +230,41 @@ impl Host for MemoryHost {
 
     ghost reads_now = { λ host told. reads_now host.initial host.turns };
 
-    fn names(&mut self) -> Result<Vec<FileName>, HostFault> {
+    fn names(&mut self) -> Result<Vec<FileName>, HostFault>
+        ensures names { IfOk result (λ names. All IsFileName names.items) }
+        ensures told { Listed (memory_state self.old) (memory_state self.new) result }
+        ensures cause { DiskCause (memory_state self.old) (memory_state self.new) result }
+        ensures numbered { IsNumbered self.old.disk_fail self.old.disk_calls self.new.disk_calls result }
+        ensures plan { IsAlike self.old self.new }
+    {
         let ok = succeeds(&self.disk_fail, self.disk_calls);
         let names = names_of(self.alloc, &self.files)?;
         end_call(ok, &mut self.disk_calls, &mut self.disk_faults)?;
         Ok(names)
     }
 
-    fn size(&mut self, name: FileName) -> Result<Option<u64>, HostFault> {
+    fn size(&mut self, name: FileName) -> Result<Option<u64>, HostFault>
+        requires { IsFileName name }
+        ensures told { Sized name (memory_state self.old) (memory_state self.new) result }
+        ensures cause { DiskCause (memory_state self.old) (memory_state self.new) result }
+        ensures numbered { IsNumbered self.old.disk_fail self.old.disk_calls self.new.disk_calls result }
+        ensures plan { IsAlike self.old self.new }
+    {
         let ok = succeeds(&self.disk_fail, self.disk_calls);
         end_call(ok, &mut self.disk_calls, &mut self.disk_faults)?;
         Ok(size_of_file(&self.files, name))
     }
 
-    fn read(&mut self, name: FileName, at: u64, buf: &mut [u8]) -> Result<usize, HostFault> {
+    fn read(&mut self, name: FileName, at: u64, buf: &mut [u8]) -> Result<usize, HostFault>
+        requires { IsFileName name }
+        ensures within { IfOk result (λ n. n ≤ length buf.old) }
+        // It gives all that there is and that fits, up to the limit.
+        ensures given { IfOk result (λ n. n ≡ limited self.old.short (min (length (bytes_in (memory_state self.old).files name) - at) (length buf.old))) }
+        ensures told { Read name at buf.old buf.new (memory_state self.old) (memory_state self.new) result }
+        ensures cause { DiskCause (memory_state self.old) (memory_state self.new) result }
+        ensures numbered { IsNumbered self.old.disk_fail self.old.disk_calls self.new.disk_calls result }
+        ensures plan { IsAlike self.old self.new }
+    {
         let ok = succeeds(&self.disk_fail, self.disk_calls);
         self.asked = sum_asked(self.asked, buf.len())?;
         end_call(ok, &mut self.disk_calls, &mut self.disk_faults)?;
@@ -253,7 +276,14 @@ impl Host for MemoryHost {
         Ok(given)
     }
 
-    fn create(&mut self, name: FileName) -> Result<(), HostFault> {
+    fn create(&mut self, name: FileName) -> Result<(), HostFault>
+        requires name { IsFileName name }
+        requires absent { file_in (memory_state self.old).files name ≡ None }
+        ensures told { Created name (memory_state self.old) (memory_state self.new) result }
+        ensures cause { DiskCause (memory_state self.old) (memory_state self.new) result }
+        ensures numbered { IsNumbered self.old.disk_fail self.old.disk_calls self.new.disk_calls result }
+        ensures plan { IsAlike self.old self.new }
+    {
         self.turns.reserve(1).map_err(|_| HostFault::Memory)?;
         let ok = succeeds(&self.disk_fail, self.disk_calls);
         add(&mut self.files, name, Vec::new(self.alloc))?;
@@ -261,7 +291,15 @@ impl Host for MemoryHost {
         end_call(ok, &mut self.disk_calls, &mut self.disk_faults)
     }
 
-    fn write(&mut self, name: FileName, at: u64, bytes: &[u8]) -> Result<(), HostFault> {
+    fn write(&mut self, name: FileName, at: u64, bytes: &[u8]) -> Result<(), HostFault>
+        requires name { IsFileName name }
+        requires there { IsSome (file_in (memory_state self.old).files name) }
+        requires inside { at ≤ length (bytes_in (memory_state self.old).files name) }
+        ensures told { Wrote name at bytes.now (memory_state self.old) (memory_state self.new) result }
+        ensures cause { DiskCause (memory_state self.old) (memory_state self.new) result }
+        ensures numbered { IsNumbered self.old.disk_fail self.old.disk_calls self.new.disk_calls result }
+        ensures plan { IsAlike self.old self.new }
+    {
         let kept = copy_of(self.alloc, bytes)?;
         self.turns.reserve(1).map_err(|_| HostFault::Memory)?;
         let ok = succeeds(&self.disk_fail, self.disk_calls);
@@ -270,14 +308,28 @@ impl Host for MemoryHost {
         end_call(ok, &mut self.disk_calls, &mut self.disk_faults)
     }
 
-    fn sync(&mut self, name: FileName) -> Result<(), HostFault> {
+    fn sync(&mut self, name: FileName) -> Result<(), HostFault>
+        requires name { IsFileName name }
+        requires there { IsSome (file_in (memory_state self.old).files name) }
+        ensures told { Synced name (memory_state self.old) (memory_state self.new) result }
+        ensures cause { DiskCause (memory_state self.old) (memory_state self.new) result }
+        ensures numbered { IsNumbered self.old.disk_fail self.old.disk_calls self.new.disk_calls result }
+        ensures plan { IsAlike self.old self.new }
+    {
         self.turns.reserve(1).map_err(|_| HostFault::Memory)?;
         let ok = succeeds(&self.disk_fail, self.disk_calls);
         note(&mut self.turns, Call::Sync(name, ok), self.asked);
         end_call(ok, &mut self.disk_calls, &mut self.disk_faults)
     }
 
-    fn delete(&mut self, name: FileName) -> Result<(), HostFault> {
+    fn delete(&mut self, name: FileName) -> Result<(), HostFault>
+        requires name { IsFileName name }
+        requires there { IsSome (file_in (memory_state self.old).files name) }
+        ensures told { Deleted name (memory_state self.old) (memory_state self.new) result }
+        ensures cause { DiskCause (memory_state self.old) (memory_state self.new) result }
+        ensures numbered { IsNumbered self.old.disk_fail self.old.disk_calls self.new.disk_calls result }
+        ensures plan { IsAlike self.old self.new }
+    {
         self.turns.reserve(1).map_err(|_| HostFault::Memory)?;
         let ok = succeeds(&self.disk_fail, self.disk_calls);
         remove(&mut self.files, name);
@@ -285,14 +337,24 @@ impl Host for MemoryHost {
         end_call(ok, &mut self.disk_calls, &mut self.disk_faults)
     }
 
-    fn sync_names(&mut self) -> Result<(), HostFault> {
+    fn sync_names(&mut self) -> Result<(), HostFault>
+        ensures told { SyncedNames (memory_state self.old) (memory_state self.new) result }
+        ensures cause { DiskCause (memory_state self.old) (memory_state self.new) result }
+        ensures numbered { IsNumbered self.old.disk_fail self.old.disk_calls self.new.disk_calls result }
+        ensures plan { IsAlike self.old self.new }
+    {
         self.turns.reserve(1).map_err(|_| HostFault::Memory)?;
         let ok = succeeds(&self.disk_fail, self.disk_calls);
         note(&mut self.turns, Call::SyncNames(ok), self.asked);
         end_call(ok, &mut self.disk_calls, &mut self.disk_faults)
     }
 
-    fn say(&mut self, bytes: &[u8]) -> Result<(), HostFault> {
+    fn say(&mut self, bytes: &[u8]) -> Result<(), HostFault>
+        ensures told { Said bytes.now (memory_state self.old) (memory_state self.new) result }
+        ensures cause { SayCause (memory_state self.old) (memory_state self.new) result }
+        ensures numbered { IsNumbered self.old.say_fail self.old.says self.new.says result }
+        ensures plan { IsAlike self.old self.new }
+    {
         let kept = copy_of(self.alloc, bytes)?;
         self.turns.reserve(1).map_err(|_| HostFault::Memory)?;
         let ok = succeeds(&self.say_fail, self.says);

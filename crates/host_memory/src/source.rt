@@ -1,6 +1,8 @@
 // A source in memory.
-ghost use Rattle.std.specs.Prelude.{◌≡◌, ◌≤◌, ◌<◌, [], length, drop, IfOk, IsOk};
-ghost use Rattle.host_memory.specs.Script.{Script};
+ghost use Rattle.std.specs.Prelude.{◌≡◌, ◌≤◌, ◌<◌, [], length, drop, IfOk, IsOk, OnErr, true, false};
+ghost use Rattle.cache_disk.specs.Source.{Filled, SourceCause};
+ghost use Rattle.host_memory.specs.History.{counted, fails_next};
+ghost use Rattle.host_memory.specs.Script.{Script, given};
 
 use cache_disk::{HostFault, Source, SourceFault};
 use std::alloc::Global;
@@ -91,7 +93,15 @@ impl Source for MemorySource {
 
     ghost faults = { λ source. source.faults };
 
-    fn fill(&mut self, buf: &mut [u8]) -> Result<usize, SourceFault> {
+    fn fill(&mut self, buf: &mut [u8]) -> Result<usize, SourceFault>
+        ensures within { IfOk result (λ n. n ≤ length buf.old) }
+        ensures told { Filled self.old.rest self.new.rest buf.old buf.new result }
+        ensures cause { SourceCause self.old.faults self.new.faults result }
+        // It fails exactly where its number is among those that fail, and else gives all that fits.
+        ensures failed { OnErr result (fails_next self.old.fail self.old.fills ≡ true) }
+        ensures given { IfOk result (λ n. (fails_next self.old.fail self.old.fills ≡ false) × (n ≡ given self.old (length buf.old))) }
+        ensures plan { (self.new.fail ≡ self.old.fail) × (self.new.piece ≡ self.old.piece) × (self.new.fills ≡ counted self.old.fills) }
+    {
         self.fills = self.fills.saturating_add(1);
         if self.fail.contains(&self.fills) {
             self.faults = self.faults.saturating_add(1);

@@ -15,7 +15,7 @@ invariant_of-self-2 c =
     c.remove.ensures (rw c.remove.ensures (apart_without c.args.name inside.files.items c.self.invariant.apart)) refl is c.end_call.ensures.faults
 
 pub returns-clause-told : goal.returns-clause-told
-returns-clause-told c told =
+returns-clause-told c =
     let inside = c.self.inside in
     rw (← c.self.view_is) (deleted (seen inside) (disk_turn inside c.note.new.turns.items c.end_call.new.calls c.end_call.new.faults) c.args.name c.succeeds-ok.result c.end_call.result
     (took_disk inside c.reserve.new.self.items c.note.new.turns.items (Delete c.args.name) c.end_call.new.calls c.end_call.new.faults c.note.ensures c.reserve.ensures.items)

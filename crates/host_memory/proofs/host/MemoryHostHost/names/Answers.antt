@@ -18,7 +18,7 @@ returns-clause-names c =
 
 pub returns-clause-told : goal.returns-clause-told
 unfolding names_in
-returns-clause-told c told =
+returns-clause-told c =
     let inside = c.self.inside in
     rw (← c.self.view_is) (listed (seen inside) (disk_turn inside inside.turns.items c.end_call.new.calls c.end_call.new.faults) inside.files.items c.in_ok-names.names
     (record { initial = refl; turns = refl }) refl refl c.self.invariant.apart c.self.invariant.read (c.in_ok-names.ensures.names ∙ ap names_in c.deref-2.ensures.value))

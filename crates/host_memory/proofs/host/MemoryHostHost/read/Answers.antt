@@ -6,7 +6,7 @@ use Rattle.host_memory.proofs.Views.{seen, read_now}
 use Rattle.host_memory.proofs.host.MemoryHostHost.read.Goals as goal
 
 pub returns-in_err-end_call-clause-told : goal.returns-in_err-end_call-clause-told
-returns-in_err-end_call-clause-told c told =
+returns-in_err-end_call-clause-told c =
     let inside = c.self.inside in
     let p = err_from_is_err_and c.from_residual-in_err-end_call.result c.from_residual-in_err-end_call.ensures.1 in
     let e = is_failure c.succeeds-ok.result c.in_err-end_call.field-0.0 c.end_call.result c.in_err-end_call.was c.end_call.ensures.answer in
@@ -14,7 +14,7 @@ returns-in_err-end_call-clause-told c told =
     (record { initial = refl; turns = refl }) c.in_ok-self-inside.ensures.sum refl (p.1 ∙ ap Err (p.2 ∙ e)))
 
 pub returns-clause-told : goal.returns-clause-told
-returns-clause-told c told =
+returns-clause-told c =
     let inside = c.self.inside in
     rw (← c.self.view_is) (read_ok c.args.name c.args.at c.args.buf.now _ (seen inside) (read_now inside c.in_ok-self-inside.field-0 c.end_call.new.calls c.end_call.new.faults c.count_if.new.count) c.bytes_from-bytes.result.now c.shortened-given.result
     (record { initial = refl; turns = refl }) c.in_ok-self-inside.ensures.sum

@@ -24,7 +24,7 @@ invariant_of-self-2 c =
     c.self.invariant c.note.ensures c.reserve.ensures.items (h ∙ ap (λ words. inside.said.items ++ words) (ap (λ bytes. if c.succeeds-ok.result then bytes else []) (sym kept) ∙ spoken c.in_ok-kept.kept c.succeeds-ok.result)) refl refl is c.end_call.ensures.faults
 
 pub returns-clause-told : goal.returns-clause-told
-returns-clause-told c told =
+returns-clause-told c =
     let inside = c.self.inside in
     let done = said (seen inside) (say_turn inside c.note.new.turns.items c.end_call.new.calls c.end_call.new.faults) c.in_ok-kept.kept c.succeeds-ok.result c.end_call.result
     (took_say inside c.reserve.new.self.items c.note.new.turns.items (Say c.in_ok-kept.kept c.succeeds-ok.result) c.end_call.new.calls c.end_call.new.faults c.note.ensures c.reserve.ensures.items)

@@ -13,7 +13,7 @@ invariant_of-self-2 c =
     c.self.invariant c.note.ensures c.reserve.ensures.items refl refl c.self.invariant.apart refl is c.end_call.ensures.faults
 
 pub returns-clause-told : goal.returns-clause-told
-returns-clause-told c told =
+returns-clause-told c =
     let inside = c.self.inside in
     rw (← c.self.view_is) (synced (seen inside) (disk_turn inside c.note.new.turns.items c.end_call.new.calls c.end_call.new.faults) c.args.name c.succeeds-ok.result c.end_call.result
     (took_disk inside c.reserve.new.self.items c.note.new.turns.items (Sync c.args.name c.succeeds-ok.result) c.end_call.new.calls c.end_call.new.faults c.note.ensures c.reserve.ensures.items)

@@ -20,10 +20,10 @@ invariant_of-self-2 c =
     (done ∙ ap (λ bytes. written c.args.name c.args.at bytes inside.files.items) (sym kept)) (rw done (apart_put _ inside.files.items _ c.self.invariant.apart)) refl is c.end_call.ensures.faults
 
 pub returns-clause-told : goal.returns-clause-told
-returns-clause-told c told =
+returns-clause-told c =
     let inside = c.self.inside in
-    let there : (seen : History) → seen ≡ c.args.self.now → IsTrue (is_some (file_in (memory_state seen).files c.args.name)) = λ seen is. (let P : History → Type 0 = λ host. IsTrue (is_some (file_in (memory_state host).files c.args.name)) in subst P (sym is) (c.requires.there refl)) in
-    let room : (seen : History) → seen ≡ c.args.self.now → c.args.at ≤ length (bytes_in (memory_state seen).files c.args.name) = λ seen is. (let P : History → Type 0 = λ host. c.args.at ≤ length (bytes_in (memory_state host).files c.args.name) in subst P (sym is) (c.requires.inside refl)) in
+    let there : (seen : History) → seen ≡ c.args.self.now → IsTrue (is_some (file_in (memory_state seen).files c.args.name)) = λ seen is. (let P : History → Type 0 = λ host. IsTrue (is_some (file_in (memory_state host).files c.args.name)) in subst P (sym is) (c.requires.there)) in
+    let room : (seen : History) → seen ≡ c.args.self.now → c.args.at ≤ length (bytes_in (memory_state seen).files c.args.name) = λ seen is. (let P : History → Type 0 = λ host. c.args.at ≤ length (bytes_in (memory_state host).files c.args.name) in subst P (sym is) (c.requires.inside)) in
     let done = wrote (seen inside) (disk_turn inside c.note.new.turns.items c.end_call.new.calls c.end_call.new.faults) c.args.name c.args.at c.in_ok-kept.kept c.succeeds-ok.result c.end_call.result
     (room (seen inside) c.self.view_is) (there (seen inside) c.self.view_is)
     (took_disk inside c.reserve.new.self.items c.note.new.turns.items (Write c.args.name c.args.at c.in_ok-kept.kept) c.end_call.new.calls c.end_call.new.faults c.note.ensures c.reserve.ensures.items)
