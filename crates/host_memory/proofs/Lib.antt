@@ -1,0 +1,12 @@
+pub mod Apart
+pub mod Building
+pub mod Calls
+pub mod DiskFacts
+pub mod Fitting
+pub mod Looks
+pub mod OneMore
+pub mod Places
+pub mod Tearing
+pub mod Views
+pub mod Words
+pub mod Writes

@@ -1,0 +1,8 @@
+pub mod Crashes
+pub mod Facts
+pub mod Files
+pub mod History
+pub mod NamesDecide
+pub mod ReadsNow
+pub mod Script
+pub mod Turns
