@@ -175,3 +175,9 @@ pub record OnFile (name : FileName) (has : List ℕ → Type 0) (old new : Image
 -- a property holds of every image that a crash may leave now
 abbrev pub AllLeft : HostState → (Image → Type 0) → Type 0
 AllLeft state has = (c : Image) → state.left state.turn c → has c
+
+-- the image has this file, with a property
+pub record HasFile (name : FileName) (has : List ℕ → Type 0) (image : Image) : Type 0 where
+  pub bytes : List ℕ
+  pub there : file_in image name ≡ Some bytes
+  pub file : has bytes

@@ -2,9 +2,10 @@
 ghost use Rattle.std.specs.Prelude.{◌≤◌, ◌^◌, ◌<◌, ◌≡◌, List, ℕ, Bool, All, length, IfOk, IsTrue, IsSome, IsNone, None};
 ghost use Rattle.cache_model.specs.Files.{IsFileName, file_in, bytes_in};
 ghost use Rattle.cache_disk.specs.State.{HostState};
+ghost use Rattle.cache_disk.specs.Faults.{store_fault};
 ghost use Rattle.cache_disk.specs.Calls.{DiskCause, SayCause, Listed, Sized, Read, Created, Wrote, Synced, Deleted, SyncedNames, Said};
 
-use cache_model::FileName;
+use cache_model::{FileName, StoreFault};
 
 /// Why a call of a host didn't do its work.
 #[derive(Clone, Copy, Debug, PartialEq, Eq)]
@@ -13,6 +14,17 @@ pub enum HostFault {
     Failed,
     /// Memory was wanted. The call changed nothing.
     Memory,
+}
+
+impl From<HostFault> for StoreFault {
+    ghost from_gives = { λ fault given. given ≡ store_fault fault };
+
+    fn from(fault: HostFault) -> Self {
+        match fault {
+            HostFault::Failed => StoreFault::Failed,
+            HostFault::Memory => StoreFault::Memory,
+        }
+    }
 }
 
 /// One directory of files, and an output.

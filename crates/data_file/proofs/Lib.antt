@@ -1,0 +1,5 @@
+pub mod Bytes
+pub mod Frame
+pub mod Sealing
+pub mod Standing
+pub mod Steps

@@ -1,0 +1,6 @@
+//! Data files: an open gate before each frame that counts, and a closed one behind the last.
+#![tactic(auto)]
+
+mod appender;
+
+pub use appender::Appender;
