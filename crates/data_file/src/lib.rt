@@ -2,5 +2,7 @@
 #![tactic(auto)]
 
 mod appender;
+mod window;
 
 pub use appender::Appender;
+pub use window::Window;

@@ -137,8 +137,7 @@ fn removals_and_ends(rt: HostRuntime) -> Result<(), Fail> {
     let key = Span { at: 11, length: 2 };
     let last: [u8; 8] = [0x1f, 0xff, 0xff, 0xff, 0xff, 0xff, 0xff, 0xff];
     let late: [u8; 8] = [0x20, 0, 0, 0, 0, 0, 0, 0];
-    let two: &[u8] = &[0, 2];
-    let none: &[u8] = &[];
+    let two: [u8; 2] = [0, 2];
     let cases = [
         (
             2,
@@ -149,13 +148,12 @@ fn removals_and_ends(rt: HostRuntime) -> Result<(), Fail> {
         ),
         (2, SEVEN, two, 1, Step::Cut),
         (2, PAST, two, 2, Step::Bad(BadKind::Sequence(1 << 62))),
-        (2, SEVEN, &[0, 0], 2, Step::Bad(BadKind::KeyLength(0))),
-        (2, SEVEN, &[4, 1], 2, Step::Bad(BadKind::KeyLength(1025))),
-        (2, SEVEN, none, 1, Step::Cut),
+        (2, SEVEN, [0, 0], 2, Step::Bad(BadKind::KeyLength(0))),
+        (2, SEVEN, [4, 1], 2, Step::Bad(BadKind::KeyLength(1025))),
         (
             0,
             last,
-            none,
+            two,
             0,
             Step::Whole(
                 Item::End {
@@ -164,16 +162,18 @@ fn removals_and_ends(rt: HostRuntime) -> Result<(), Fail> {
                 9,
             ),
         ),
-        (0, late, none, 0, Step::Bad(BadKind::Moment(1 << 61))),
-        (3, SEVEN, none, 0, Step::Bad(BadKind::Tag(3))),
+        (0, late, two, 0, Step::Bad(BadKind::Moment(1 << 61))),
+        (3, SEVEN, two, 0, Step::Bad(BadKind::Tag(3))),
     ];
     for (i, (tag, number, length, room, want)) in cases.iter().enumerate() {
         let bytes = bytes_of(rt.alloc(), &[&[*tag], number, length], *room)?;
         assert_eq!(rt; decode(&bytes, 0), *want, "case {i}");
     }
     let end: [u8; 8] = [0; 8];
+    let removal: [u8; 10] = [2; 10];
     assert_eq!(rt; decode(&end, 0), Step::Cut);
     assert_eq!(rt; decode(&end, 8), Step::Cut);
+    assert_eq!(rt; decode(&removal, 0), Step::Cut);
     Ok(())
 }
 
