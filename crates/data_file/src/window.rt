@@ -1,6 +1,9 @@
 // The bytes of a file from an offset on, as far as they were read.
 ghost use Rattle.std.specs.Prelude.{◌≡◌, ◌≤◌, ◌<◌, ◌+◌, ◌-◌, ◌^◌, vec_len, length, drop, take, IfOk, OnOk, OnErr, IsTrue, false, []};
 ghost use Rattle.cache_model.specs.declared.faults.StoreFault.TheVariants.{Memory};
+ghost use Rattle.cache_model.specs.Files.{IsFileName, bytes_in};
+ghost use Rattle.cache_disk.specs.State.{Stands};
+ghost use Rattle.cache_disk.specs.Calls.{DiskCause, Read};
 
 use cache_disk::{Host, HostFault};
 use cache_model::{FileName, StoreFault};
@@ -52,10 +55,18 @@ fn zeros(alloc: Global, count: usize) -> Result<Vec<u8>, StoreFault>
     }
 }
 
+// Reads into the front of a buffer, so many bytes at most.
+fn read_into<H: Host>(host: &mut H, name: FileName, at: u64, buffer: &mut [u8], wanted: usize) -> Result<usize, HostFault>
+    requires name { IsFileName name }
+    requires room { wanted ≤ length buffer.old }
+    ensures within { IfOk result (λ count. count ≤ wanted) }
+    ensures told { IsTrue H.tells → Read name at (take wanted buffer.old) (take wanted buffer.new) (H.state host.old) (H.state host.new) result }
+    ensures cause { DiskCause (H.state host.old) (H.state host.new) result }
+{
+    host.read(name, at, &mut buffer[..wanted])
+}
+
 impl Window {
-    ghost use Rattle.cache_model.specs.Files.{IsFileName, bytes_in};
-    ghost use Rattle.cache_disk.specs.State.{Stands};
-    ghost use Rattle.cache_disk.specs.Calls.{DiskCause};
     ghost use Rattle.data_file.specs.Windows.{shown_bytes, known_to, ShowsFile, IsFull};
 
     /// A window at the front of a file of this size, of which nothing was read yet.
@@ -137,9 +148,11 @@ impl Window {
             return Ok(false);
         }
         let wanted = left.min(READ_SIZE as u64) as usize;
-        let count = host.read(self.name, known, &mut self.buffer[..wanted])?;
-        self.bytes.extend_from_slice(&self.buffer[..count]).map_err(|_| HostFault::Memory)?;
-        Ok(count > 0)
+        let count = read_into(host, self.name, known, &mut self.buffer, wanted)?;
+        match self.bytes.extend_from_slice(&self.buffer[..count]) {
+            Ok(()) => Ok(count > 0),
+            Err(_) => Err(HostFault::Memory),
+        }
     }
 
     // Moves the bytes of the window to the front of their room.
