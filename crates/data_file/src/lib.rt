@@ -2,7 +2,8 @@
 #![tactic(auto)]
 
 mod appender;
+mod scan;
 mod window;
 
 pub use appender::Appender;
-pub use window::Window;
+pub use scan::{Scan, Scanned};
