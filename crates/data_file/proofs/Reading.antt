@@ -1,15 +1,14 @@
 -- Reading on: what a run of reads does to a window.
-use Rattle.std.proofs.Common.{◌≡◌, ℕ, ◌+◌, ◌-◌, ◌<◌, ◌≤◌, Bool, true, false, List, length, take, drop, ◌++◌, refl, sym, ap, ◌∙◌, arith, IsTrue, subst}
+use Rattle.std.proofs.Common.{◌≡◌, ℕ, ◌+◌, ◌-◌, ◌≤◌, Bool, List, length, take, drop, ◌++◌, sym, ap, ◌∙◌, arith, IsTrue, subst}
 use Rattle.std.proofs.lemmas.List.{take-take, take_at, length-take-le, length-drop, length-append, drop-drop}
 use Rattle.std.proofs.Math.Seq.{take-add}
-use Rattle.std.specs.Prelude.{Result, Ok}
+use Rattle.std.specs.Prelude.{Ok}
 use Rattle.cache_model.specs.declared.files.FileName.{FileName}
 use Rattle.cache_model.specs.Files.{bytes_in}
 use Rattle.cache_disk.specs.State.{HostState, Stands}
 use Rattle.cache_disk.specs.Calls.{Read}
-use Rattle.cache_disk.specs.declared.host.HostFault.{HostFault}
 use Rattle.data_file.specs.declared.window.Window.{Window}
-use Rattle.data_file.specs.Windows.{shown_bytes, known_to, ShowsFile, IsFull}
+use Rattle.data_file.specs.Windows.{ShowsFile}
 
 -- A window that was read on for a while.
 pub record Filling (first now : Window) (tells : Bool) (old new : HostState) : Type 0 where

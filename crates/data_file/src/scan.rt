@@ -128,7 +128,11 @@ impl Scan {
         ensures spent { (spent : Spent) → IsErrOf result (StoreFault.Spent spent) → ⊥ }
         ensures cause { HasStoreCause (H.state host.old) (H.state host.new) result }
     {
-        if self.pass(host)? { Ok(Some(self.item(host)?)) } else { Ok(None) }
+        if self.pass(host)? {
+            Ok(Some(self.item(host)?))
+        } else {
+            Ok(None)
+        }
     }
 
     // Passes the gate that is due, if one is, and says whether an item is due behind it.

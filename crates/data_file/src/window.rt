@@ -56,7 +56,13 @@ fn zeros(alloc: Global, count: usize) -> Result<Vec<u8>, StoreFault>
 }
 
 // Reads into the front of a buffer, so many bytes at most.
-fn read_into<H: Host>(host: &mut H, name: FileName, at: u64, buffer: &mut [u8], wanted: usize) -> Result<usize, HostFault>
+fn read_into<H: Host>(
+    host: &mut H,
+    name: FileName,
+    at: u64,
+    buffer: &mut [u8],
+    wanted: usize,
+) -> Result<usize, HostFault>
     requires name { IsFileName name }
     requires room { wanted ≤ length buffer.old }
     ensures within { IfOk result (λ count. count ≤ wanted) }
