@@ -4,3 +4,6 @@
 mod appender;
 
 pub use appender::Appender;
+
+#[cfg(test)]
+mod tests;
