@@ -2,5 +2,11 @@
 #![tactic(auto)]
 
 mod appender;
+mod scan;
+mod window;
 
 pub use appender::Appender;
+pub use scan::{Scan, Scanned};
+
+#[cfg(test)]
+mod tests;
