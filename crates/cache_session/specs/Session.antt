@@ -7,7 +7,7 @@ use Rattle.cache_model.specs.declared.commands.Command.TheVariants.{Put}
 use Rattle.cache_model.specs.declared.faults.Spent.{Spent}
 use Rattle.cache_model.specs.declared.faults.Spent.TheVariants.{Files, Sequence}
 use Rattle.cache_model.specs.declared.files.FileName.{FileName}
-use Rattle.cache_model.specs.Files.{Image, file_in}
+use Rattle.cache_model.specs.Files.{Image, IsFileName, file_in}
 use Rattle.cache_model.specs.Items.{Item, put}
 use Rattle.cache_model.specs.DataFiles.{Frame}
 use Rattle.cache_model.specs.Plain.{Plain, PlainMap, plain_after}
@@ -41,7 +41,7 @@ is_session_spoilt session = session.spoilt
 -- what writes the session's file, where it is made, writes that file and may be used
 abbrev pub IsLogOf : Option Appender → ℕ → Type 0
 IsLogOf None number = Unit {0}
-IsLogOf (Some log) number = (name_of log ≡ log_name number) × (is_spoilt log ≡ false)
+IsLogOf (Some log) number = (name_of log ≡ log_name number) × (is_spoilt log ≡ false) × IsFileName (log_name number)
 
 -- the session may be used, as far as its file goes
 abbrev pub IsUsable : Session → Type 0
@@ -51,6 +51,16 @@ IsUsable session = IsLogOf session.log session.file
 abbrev pub IsFileOf : Option Appender → ℕ → HostState → List Frame → Type 0
 IsFileOf None number state frames = (frames ≡ []) × AllLeft state (λ image. file_in image (log_name number) ≡ None)
 IsFileOf (Some log) number state frames = StandsFor log state frames []
+
+-- the session's file is made, and holds these frames
+abbrev pub IsLogStanding : Option Appender → HostState → List Frame → Type 0
+IsLogStanding None state frames = ⊥
+IsLogStanding (Some log) state frames = StandsFor log state frames []
+
+-- the session's file is made, and has room for a frame whose record has so many bytes
+abbrev pub HasRoom : Option Appender → ℕ → Type 0
+HasRoom None size = ⊥
+HasRoom (Some log) size = size_of log + size + 10 < 2 ^ 32
 
 -- each record that counts in an image has a sequence number below this one
 abbrev pub IsAboveRecords : ℕ → Image → Type 0
