@@ -1,6 +1,7 @@
 // The entries that a session holds.
-ghost use Rattle.std.specs.Prelude.{◌≡◌, ◌≤◌, ◌<◌, None, Some, MatchOption, OnOk, IfErr, vec_len, vec_capacity};
+ghost use Rattle.std.specs.Prelude.{◌≡◌, ◌≤◌, ◌<◌, None, Some, MatchOption, IsTrue, OnOk, IfErr, vec_len, vec_capacity};
 ghost use Rattle.std.specs.FinMap as map;
+ghost use Rattle.std.specs.FinMap.{is_sorted};
 ghost use Rattle.std.specs.List.{insert};
 ghost use Rattle.std.specs.Ordering.{nat_cmp};
 ghost use Rattle.std.specs.Cmp.Lexicographic.{slice_cmp};
@@ -35,25 +36,24 @@ impl Model for Entries {
 
 /// How many entries stand before the place of a key.
 fn place(entries: &[(Key, Entry)], key: &Key) -> usize
+    requires { IsTrue (is_sorted (slice_cmp nat_cmp) entries.now) }
     ensures { result ≡ count_below key.now entries.now }
 {
-    let mut at = 0;
-    while at < entries.len() && key.bytes().cmp(entries[at].0.bytes()).is_gt() {
-        at += 1;
-    }
-    at
+    entries.partition_point(|(other, _)| key.bytes().cmp(other.bytes()).is_gt())
 }
 
 /// The entry under a key.
 fn find<'a>(entries: &'a [(Key, Entry)], key: &Key) -> Option<&'a Entry>
+    requires { IsTrue (is_sorted (slice_cmp nat_cmp) entries.now) }
     ensures { MatchOption result (map.find (slice_cmp nat_cmp) key.now entries.now ≡ None) (λ e. map.find (slice_cmp nat_cmp) key.now entries.now ≡ Some e.now) }
 {
-    for (other, entry) in entries {
-        if key.bytes() == other.bytes() {
-            return Some(entry);
-        }
+    let at = place(entries, key);
+    let (other, entry) = entries.get(at)?;
+    if key.bytes() == other.bytes() {
+        Some(entry)
+    } else {
+        None
     }
-    None
 }
 
 /// Puts an entry in front of the one at a place, or at the end.
@@ -67,7 +67,8 @@ fn insert_entry(entries: &mut Vec<(Key, Entry)>, at: usize, key: Key, entry: Ent
 
 /// Puts an entry in its place, where one under the same key gives way.
 fn put_entry(entries: &mut Vec<(Key, Entry)>, key: Key, entry: Entry)
-    requires { vec_len entries.old < vec_capacity entries.old }
+    requires in_order { IsTrue (is_sorted (slice_cmp nat_cmp) entries.old.items) }
+    requires room { vec_len entries.old < vec_capacity entries.old }
     ensures { entries.new.items ≡ map.put (slice_cmp nat_cmp) key entry entries.old.items }
 {
     let at = place(entries, &key);
