@@ -1,6 +1,6 @@
 -- What a session stands for: one plain map, in memory and in every image that a crash may leave.
 use Rattle.std.specs.Prelude.{◌≡◌, ◌⊎◌, ℕ, ◌+◌, ◌-◌, ◌^◌, ◌<◌, ◌≤◌, ◌==◌, ◌&&◌, Bool, true, false, List, [], ◌∷◌, ◌++◌, length, Option, Some, None, if◌then◌else◌, nat_lt, max}
-use Rattle.std.specs.FinMap.{get}
+use Rattle.std.specs.FinMap.{get, insert}
 use Rattle.cache_model.specs.declared.entries.Until.TheVariants.{Never}
 use Rattle.cache_model.specs.declared.entries.Lifespan.TheVariants.{Endless}
 use Rattle.cache_model.specs.declared.commands.Command.TheVariants.{Put}
@@ -16,6 +16,8 @@ use Rattle.cache_disk.specs.State.{HostState}
 use Rattle.cache_disk.specs.Calls.{AllLeft}
 use Rattle.data_file.specs.declared.appender.Appender.{Appender}
 use Rattle.data_file.specs.Appending.{name_of, size_of, is_spoilt, StandsFor}
+use Rattle.record_format.specs.declared.items.OwnItem.{OwnItem}
+use Rattle.record_format.specs.declared.items.OwnItem.TheVariants as own
 use Rattle.cache_session.specs.declared.session.Session.{Session}
 
 -- the entries that the session holds in memory
@@ -61,6 +63,18 @@ IsLogStanding (Some log) state frames = StandsFor log state frames []
 abbrev pub HasRoom : Option Appender → ℕ → Type 0
 HasRoom None size = ⊥
 HasRoom (Some log) size = size_of log + size + 10 < 2 ^ 32
+
+-- a record that puts an entry
+abbrev pub IsPut : OwnItem → Type 0
+IsPut (own.Put seq until key value) = Unit {0}
+IsPut (own.Removal seq key) = ⊥
+IsPut (own.End moment) = ⊥
+
+-- the entries with the one that a record puts
+abbrev pub with_put : PlainMap → OwnItem → PlainMap
+with_put entries (own.Put seq until key value) = insert entries key (record { value = value; until = until })
+with_put entries (own.Removal seq key) = entries
+with_put entries (own.End moment) = entries
 
 -- each record that counts in an image has a sequence number below this one
 abbrev pub IsAboveRecords : ℕ → Image → Type 0

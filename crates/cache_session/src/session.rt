@@ -43,7 +43,7 @@ pub struct Session {
 }
 
 impl Session {
-    ghost use Rattle.cache_session.specs.Session.{entries_of, moment_of, next_sequence, file_number, is_session_spoilt, IsUsable, SessionStands, IsSessionStanding, frame_of, after_put, ReadsOneOf, spent_by, spent_in_file, IsFileOf, IsLogStanding, HasRoom};
+    ghost use Rattle.cache_session.specs.Session.{entries_of, moment_of, next_sequence, file_number, is_session_spoilt, IsUsable, SessionStands, IsSessionStanding, frame_of, after_put, ReadsOneOf, spent_by, spent_in_file, IsFileOf, IsLogStanding, HasRoom, IsPut, with_put};
 
     /// The moment of the session.
     pub fn moment(&self) -> u64
@@ -116,11 +116,10 @@ impl Session {
             key,
             value,
         };
-        let record = self.prepare(&item)?;
+        let spelled = self.prepare(&item)?;
         self.make_log(host)?;
-        self.write_frame(host, &record)?;
-        let OwnItem::Put { key, value, .. } = item else { unreachable!() };
-        self.keep(key, value);
+        self.write_frame(host, &spelled)?;
+        self.keep(item);
         Ok(())
     }
 
@@ -154,16 +153,16 @@ impl Session {
     // Takes the memory of a put: the spelling of its record, and room for its entry.
     fn prepare(&mut self, item: &OwnItem) -> Result<Vec<u8>, StoreFault>
         requires { IsItem (own_item item.now) }
-        ensures spelled { IfOk result (λ record. record.items ≡ spelling (own_item item.now)) }
+        ensures spelled { IfOk result (λ spelled. spelled.items ≡ spelling (own_item item.now)) }
         ensures room { OnOk result (1 ≤ self.new.entries.spare) }
         ensures entries { entries_of self.new ≡ entries_of self.old }
         ensures rest { self.new ≡ record self.old { entries = self.new.entries } }
         ensures memory { IfErr result (λ f. f ≡ fault.Memory) }
     {
-        let mut record = Vec::new(self.entries.alloc());
-        encode(item, &mut record).map_err(|_| StoreFault::Memory)?;
+        let mut spelled = Vec::new(self.entries.alloc());
+        encode(item, &mut spelled).map_err(|_| StoreFault::Memory)?;
         self.entries.reserve().map_err(|_| StoreFault::Memory)?;
-        Ok(record)
+        Ok(spelled)
     }
 
     // Makes the session's file, where it isn't made yet.
@@ -199,11 +198,11 @@ impl Session {
     }
 
     // Writes one record as a sealed frame of the session's file, which is made.
-    fn write_frame<H: Host>(&mut self, host: &mut H, record: &[u8]) -> Result<(), StoreFault>
+    fn write_frame<H: Host>(&mut self, host: &mut H, spelled: &[u8]) -> Result<(), StoreFault>
         requires sound { is_session_spoilt self.old ≡ false }
         requires usable { IsUsable self.old }
-        requires room { HasRoom self.old.log (length record.now) }
-        requires record { IsRecordSpelling record.now }
+        requires room { HasRoom self.old.log (length spelled.now) }
+        requires spelled { IsRecordSpelling spelled.now }
         requires stands { IsTrue H.tells → (frames : List Frame) × IsLogStanding self.old.log (H.state host.old) frames }
         ensures rest { self.new ≡ record self.old { log = self.new.log; spoilt = self.new.spoilt } }
         ensures sound { OnOk result (is_session_spoilt self.new ≡ false) }
@@ -212,10 +211,10 @@ impl Session {
         ensures kept { IsTrue H.tells → IsErrOf result fault.Memory → is_session_spoilt self.new ≡ false
             → Stands (H.state host.old) (H.state host.new) }
         ensures stands { IsTrue H.tells → (frames : List Frame) (one : Item)
-            → IsLogStanding self.old.log (H.state host.old) frames → IsRecord one → record.now ≡ spelling one
+            → IsLogStanding self.old.log (H.state host.old) frames → IsRecord one → spelled.now ≡ spelling one
             → OnOk result (IsLogStanding self.new.log (H.state host.new) (sealed frames (one ∷ []) (moment_of self.old))) }
         ensures images { IsTrue H.tells → (frames : List Frame) (one : Item)
-            → IsLogStanding self.old.log (H.state host.old) frames → IsRecord one → record.now ≡ spelling one
+            → IsLogStanding self.old.log (H.state host.old) frames → IsRecord one → spelled.now ≡ spelling one
             → Moves (H.state host.old) (H.state host.new)
             (OnFile (log_name (file_number self.old)) (CountsOneOf frames (sealed frames (one ∷ []) (moment_of self.old)))) }
         ensures faults { IfErr result IsHostly }
@@ -226,7 +225,7 @@ impl Session {
         let Some(log) = &mut self.log else {
             unreachable!()
         };
-        if let Err(fault) = log.append(host, record) {
+        if let Err(fault) = log.append(host, spelled) {
             self.spoilt = log.is_spoilt();
             return Err(fault);
         }
@@ -237,17 +236,24 @@ impl Session {
     }
 
     // Puts the entry of the record that was written into memory.
-    fn keep(&mut self, key: Key, value: Value)
+    fn keep(&mut self, item: OwnItem)
         requires room { 1 ≤ self.old.entries.spare }
         requires next { next_sequence self.old < 2 ^ 62 }
-        ensures entries { entries_of self.new ≡ map.insert (entries_of self.old) key (record { value = value; until = Never }) }
-        ensures rest { self.new ≡ record self.old { entries = self.new.entries; next = next_sequence self.old + 1 } }
+        requires put { IsPut item }
+        ensures entries { entries_of self.new ≡ with_put (entries_of self.old) item }
+        ensures rest { self.new ≡ record self.old { entries = self.new.entries; next = self.new.next; next_some = self.new.next_some; next_fits = self.new.next_fits } }
+        ensures next { next_sequence self.new ≡ next_sequence self.old + 1 }
     {
-        let entry = Entry {
-            value,
-            until: Until::Never,
-        };
-        self.entries.put(key, entry);
+        match item {
+            OwnItem::Put {
+                seq: _seq,
+                until,
+                key,
+                value,
+            } => self.entries.put(key, Entry { value, until }),
+            OwnItem::Removal { seq: _seq, key: _key } => unreachable!(),
+            OwnItem::End { moment: _moment } => unreachable!(),
+        }
         self.next += 1;
     }
 }
