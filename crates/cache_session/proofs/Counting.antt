@@ -73,6 +73,33 @@ sound-step n frames d e step sound m bytes there = ⊎_elim same other (apart n 
 placed-first : (frames : List Frame) (one : Item) → placed_of frames (one ∷ []) ≡ placed_frames 2 frames ++ (next_place frames [], one) ∷ []
 placed-first frames one = placed-push frames [] one ∙ ap (λ (l : List (ℕ × Item)). l ++ (next_place frames [], one) ∷ []) (append-nil (placed_frames 2 frames))
 
+-- one frame more, whose only record is this one
+abbrev pub with_frame : List Frame → Item → ℕ → List Frame
+with_frame frames one moment = sealed frames (one ∷ []) moment
+
+items-with_frame : (frames : List Frame) (one : Item) (moment : ℕ) → placed_frames 2 (with_frame frames one moment) ≡ (placed_frames 2 frames ++ (next_place frames [], one) ∷ []) ++ (next_place frames (one ∷ []), end moment) ∷ []
+items-with_frame frames one moment = placed-sealed frames (one ∷ []) moment ∙ ap (λ (l : List (ℕ × Item)). l ++ (next_place frames (one ∷ []), end moment) ∷ []) (placed-first frames one)
+
+-- where the file counts one frame more, its record counts
+pub new-counted : (n : ℕ) (frames : List Frame) (one : Item) (moment : ℕ) (e : Image) → HasFile (log_name n) (CountsFrames (with_frame frames one moment)) e → IsCounted e n (next_place frames []) one
+new-counted n frames one moment e has =
+    let within = Contains-append_left (placed_frames 2 frames ++ (next_place frames [], one) ∷ []) ((next_place frames (one ∷ []), end moment) ∷ []) (next_place frames [], one) (Contains-push (placed_frames 2 frames) (next_place frames [], one)) in
+    counted-there n (next_place frames []) one (with_frame frames one moment) e has (subst (λ (l : List (ℕ × Item)). Contains l (next_place frames [], one)) (sym (items-with_frame frames one moment)) within)
+
+-- what counts then counted before, or is the record or the end of that frame
+pub within-frame : (frames : List Frame) (one : Item) (moment a : ℕ) (item : Item) → Contains (placed_frames 2 (with_frame frames one moment)) (a, item) → Contains (placed_frames 2 frames) (a, item) ⊎ (((a ≡ next_place frames []) × (item ≡ one)) ⊎ (item ≡ end moment))
+within-frame frames one moment a item within =
+    ⊎_elim
+    (λ first. ⊎_elim (λ before. inl before) (λ is. inr (inl (ap (λ (p : ℕ × Item). p.0) (sym is), ap (λ (p : ℕ × Item). p.1) (sym is)))) (Contains-push_cases (placed_frames 2 frames) (next_place frames [], one) (a, item) first))
+    (λ is. inr (inr (ap (λ (p : ℕ × Item). p.1) (sym is))))
+    (Contains-push_cases (placed_frames 2 frames ++ (next_place frames [], one) ∷ []) (next_place frames (one ∷ []), end moment) (a, item) (subst (λ (l : List (ℕ × Item)). Contains l (a, item)) (items-with_frame frames one moment) within))
+
+-- what counted before counts then
+pub within-more : (frames : List Frame) (one : Item) (moment a : ℕ) (item : Item) → Contains (placed_frames 2 frames) (a, item) → Contains (placed_frames 2 (with_frame frames one moment)) (a, item)
+within-more frames one moment a item within =
+    subst (λ (l : List (ℕ × Item)). Contains l (a, item)) (sym (items-with_frame frames one moment))
+    (Contains-append_left (placed_frames 2 frames ++ (next_place frames [], one) ∷ []) ((next_place frames (one ∷ []), end moment) ∷ []) (a, item) (Contains-append_left (placed_frames 2 frames) ((next_place frames [], one) ∷ []) (a, item) within))
+
 -- The later image is sound where the earlier one is, and the same counts in both.
 pub record SameCounted (d e : Image) : Type 0 where
   pub sound : IsSound d → IsSound e
@@ -117,35 +144,33 @@ module _ (n : ℕ) (frames : List Frame) (d e : Image) (counts : Counts (log_nam
           (apart n m)
 
   -- the file counts one frame more, whose only record is this one
-  pub more-counted : (one : Item) (moment : ℕ) → OnFile (log_name n) (CountsFrames (sealed frames (one ∷ []) moment)) d e → HasFile (log_name n) (CountsFrames (sealed frames (one ∷ []) moment)) e
+  pub more-counted : (one : Item) (moment : ℕ) → OnFile (log_name n) (CountsFrames (with_frame frames one moment)) d e → HasFile (log_name n) (CountsFrames (with_frame frames one moment)) e
       → MoreCounted d e n (next_place frames []) one (end moment)
-  more-counted one moment step after = record {
-    sound = sound-step n more d e step;
-    kept = kept;
-    new = counted-there n (next_place frames []) one more e after (subst (λ l. Contains l (next_place frames [], one)) (sym items) (Contains-append_left before _ _ (Contains-push (placed_frames 2 frames) (next_place frames [], one))));
-    only = only;
-  }
+  more-counted one moment step after = record { sound = sound-step n (with_frame frames one moment) d e step; kept = kept; new = new-counted n frames one moment e after; only = only }
     where
-      more : List Frame
-      more = sealed frames (one ∷ []) moment
-
-      before : List (ℕ × Item)
-      before = placed_frames 2 frames ++ (next_place frames [], one) ∷ []
-
-      items : placed_frames 2 more ≡ before ++ (next_place frames (one ∷ []), end moment) ∷ []
-      items = placed-sealed frames (one ∷ []) moment ∙ ap (λ (l : List (ℕ × Item)). l ++ (next_place frames (one ∷ []), end moment) ∷ []) (placed-first frames one)
+      here : (a : ℕ) (item : Item) → IsCounted d n a item → IsCounted e n a item
+      here a item counted = counted-there n a item (with_frame frames one moment) e after (within-more frames one moment a item (counted-within n a item frames d counts counted))
 
       kept : (m a : ℕ) (item : Item) → IsCounted d m a item → IsCounted e m a item
       kept m a item counted =
           ⊎_elim
-          (λ is. subst (λ (k : ℕ). IsCounted d k a item → IsCounted e k a item) is here counted)
+          (λ is. subst (λ (k : ℕ). IsCounted d k a item → IsCounted e k a item) is (here a item) counted)
           (λ other. counted-beside n m a item d e step.others other counted)
           (apart n m)
-        where
-          here : IsCounted d n a item → IsCounted e n a item
-          here counted =
-              let within = Contains-append_left before ((next_place frames (one ∷ []), end moment) ∷ []) (a, item) (Contains-append_left (placed_frames 2 frames) ((next_place frames [], one) ∷ []) (a, item) (counted-within n a item frames d counts counted)) in
-              counted-there n a item more e after (subst (λ l. Contains l (a, item)) (sym items) within)
+
+      -- the file was there, or there were no frames
+      was : (c : Counts (log_name n) frames d) (a : ℕ) (item : Item) → Contains (placed_frames 2 frames) (a, item) → IsCounted d n a item
+      was (inl none) a item within = absurd (no-contained a item frames none.0 within)
+      was (inr has) a item within = counted-there n a item frames d has within
 
       only : (m a : ℕ) (item : Item) → IsCounted e m a item → IsCounted d m a item ⊎ (((m ≡ n) × (a ≡ next_place frames []) × (item ≡ one)) ⊎ (item ≡ end moment))
-      only = ?
+      only m a item counted = ⊎_elim same (λ other. inl (counted-before n m a item d e step.others other counted)) (apart n m)
+        where
+          same : n ≡ m → IsCounted d m a item ⊎ (((m ≡ n) × (a ≡ next_place frames []) × (item ≡ one)) ⊎ (item ≡ end moment))
+          same is =
+              let now : IsCounted e n a item = subst (λ (k : ℕ). IsCounted e k a item) (sym is) counted in
+              let within = counted-within n a item (with_frame frames one moment) e (inr after) now in
+              ⊎_elim
+              (λ before. inl (subst (λ (k : ℕ). IsCounted d k a item) is (was counts a item before)))
+              (λ new. ⊎_elim (λ first. inr (inl (sym is, first.0, first.1))) (λ last. inr (inr last)) new)
+              (within-frame frames one moment a item within)
