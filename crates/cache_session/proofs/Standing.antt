@@ -40,7 +40,10 @@ one-of name frames more d e step = from_some (file_in e name) refl
     keeps these bytes is counts = record {
       others = step.others;
       stays = step.stays;
-      file = λ other there. subst (λ (l : List ℕ). CountsFrames these l) (let same : Some bytes ≡ Some other = sym is ∙ there in cc) counts;
+      file = λ other there.
+          let same : Some bytes ≡ Some other = sym is ∙ there in
+          let same_bytes : bytes ≡ other = cc in
+          subst (λ (l : List ℕ). CountsFrames these l) same_bytes counts;
     }
 
     from_some : (found : Option (List ℕ)) → file_in e name ≡ found → OnFile name (CountsFrames frames) d e ⊎ (OnFile name (CountsFrames more) d e × HasFile name (CountsFrames more) e)
@@ -138,3 +141,17 @@ counts-file : (log : Option Appender) (n : ℕ) (a : HostState) (frames : List F
 counts-file None n a frames file named m left = inl (file.0, file.1 m left)
 counts-file (Some made) n a frames file named m left =
     inr (subst (λ (name : FileName). HasFile name (CountsFrames frames) m) (named made refl) (counted_now made a frames [] file m left))
+
+-- a record is written, and its frame sealed
+pub frame-run : (name first second : FileName) (a b c : HostState) (frames : List Frame) (one : Item) (moment : ℕ)
+    → first ≡ name
+    → second ≡ first
+    → Moves a b (OnFile first (CountsFrames frames))
+    → Moves b c (OnFile second (CountsOneOf frames (sealed frames (one ∷ []) moment)))
+    → Moves a c (OnFile name (CountsOneOf frames (sealed frames (one ∷ []) moment)))
+frame-run name first second a b c frames one moment is_name same ab bc =
+    subst (λ (n : FileName). Moves a c (OnFile n (CountsOneOf frames (sealed frames (one ∷ []) moment)))) is_name
+    (goes_on_file a b c first (CountsOneOf frames (sealed frames (one ∷ []) moment)) (OnFile first (CountsOneOf frames (sealed frames (one ∷ []) moment)))
+        (weaker_on_file a b first (CountsFrames frames) (CountsOneOf frames (sealed frames (one ∷ []) moment)) ab (λ bytes counts. inl counts))
+        (subst (λ (n : FileName). Moves b c (OnFile n (CountsOneOf frames (sealed frames (one ∷ []) moment)))) same bc)
+        (λ e m left step. step))
