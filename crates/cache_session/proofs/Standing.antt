@@ -1,12 +1,16 @@
 -- What a session stands for, over the calls of a put.
-use Rattle.std.proofs.Common.{◌≡◌, ◌⊎◌, ⊎_elim, inl, inr, ℕ, ◌+◌, ◌<◌, ◌≤◌, List, [], ◌∷◌, ◌++◌, Option, Some, None, Result, IsSome, refl, sym, ◌∙◌, ap, subst, arith}
+use Rattle.std.proofs.Common.{◌≡◌, ◌⊎◌, ⊎_elim, inl, inr, ℕ, ◌+◌, ◌^◌, ◌==◌, ◌<◌, ◌≤◌, Bool, true, false, if◌then◌else◌, List, [], ◌∷◌, ◌++◌, Option, Some, None, Result, IsSome, refl, sym, ◌∙◌, ap, subst, arith}
 use Rattle.std.proofs.Math.Nat.{eq-or-lt_of_le}
+use Rattle.std.proofs.lemmas.Bool.Decides.{nat_tests}
+use Rattle.cache_model.specs.declared.faults.Spent.{Spent}
+use Rattle.cache_model.specs.declared.faults.Spent.TheVariants.{Sequence}
 use Rattle.cache_model.specs.declared.entries.Until.TheVariants.{Never}
 use Rattle.cache_model.specs.declared.files.FileName.{FileName}
 use Rattle.cache_model.specs.Files.{Image, file_in}
 use Rattle.cache_model.specs.Items.{Item, put, end}
 use Rattle.cache_model.specs.DataFiles.{Frame, CountsFrames}
-use Rattle.cache_model.specs.Plain.{Plain}
+use Rattle.cache_model.specs.Plain.{Plain, PlainMap}
+use Rattle.std.specs.FinMap.{insert}
 use Rattle.cache_model.specs.Images.{log_name, Reads}
 use Rattle.cache_disk.specs.declared.host.HostFault.{HostFault}
 use Rattle.cache_disk.specs.State.{HostState, SameFiles, Moves, Stands}
@@ -16,8 +20,8 @@ use Rattle.data_file.specs.declared.appender.Appender.{Appender}
 use Rattle.data_file.specs.Appending.{StandsFor, CountsOneOf, sealed}
 use Rattle.data_file.proofs.Frame.{counted_now, stands_still, stands_said}
 use Rattle.cache_session.specs.declared.session.Session.{Session}
-use Rattle.cache_session.specs.Session.{IsFileOf, IsLogStanding, IsAboveRecords, SessionStands, after_put, ReadsOneOf}
-use Rattle.cache_session.proofs.Counting.{Counts, with_frame, new-counted, same-counted, more-counted}
+use Rattle.cache_session.specs.Session.{IsLogOf, IsFileOf, IsLogStanding, IsAboveRecords, SessionStands, after_put, ReadsOneOf, spent_in_file, spent_by}
+use Rattle.cache_session.proofs.Counting.{Counts, SameCounted, with_frame, new-counted, same-counted, more-counted}
 use Rattle.cache_session.proofs.Reading.{reads-same, above-same, reads-more, above-more}
 
 -- the file in an image
@@ -155,3 +159,173 @@ frame-run name first second a b c frames one moment is_name same ab bc =
         (weaker_on_file a b first (CountsFrames frames) (CountsOneOf frames (sealed frames (one ∷ []) moment)) ab (λ bytes counts. inl counts))
         (subst (λ (n : FileName). Moves b c (OnFile n (CountsOneOf frames (sealed frames (one ∷ []) moment)))) same bc)
         (λ e m left step. step))
+
+-- the frame is that of this moment, in the file with this number
+pub frame-like : (b c : HostState) (n other : ℕ) (frames : List Frame) (one : Item) (moment later : ℕ) → other ≡ n → later ≡ moment
+    → Moves b c (OnFile (log_name other) (CountsOneOf frames (with_frame frames one later)))
+    → Moves b c (OnFile (log_name n) (CountsOneOf frames (with_frame frames one moment)))
+frame-like b c n other frames one moment later same_file same_moment moves =
+    subst (λ (k : ℕ). Moves b c (OnFile (log_name k) (CountsOneOf frames (with_frame frames one moment)))) same_file
+    (subst (λ (m : ℕ). Moves b c (OnFile (log_name other) (CountsOneOf frames (with_frame frames one m)))) same_moment moves)
+
+pub file-like : (a b : HostState) (n other : ℕ) (frames : List Frame) → other ≡ n → Moves a b (OnFile (log_name other) (CountsFrames frames)) → Moves a b (OnFile (log_name n) (CountsFrames frames))
+file-like a b n other frames same moves = subst (λ (k : ℕ). Moves a b (OnFile (log_name k) (CountsFrames frames))) same moves
+
+pub file-of_log : (log : Option Appender) (n : ℕ) (a : HostState) (frames : List Frame) → IsLogStanding log a frames → IsFileOf log n a frames
+file-of_log None n a frames stands = absurd stands
+file-of_log (Some made) n a frames stands = stands
+
+-- the session's file, after calls that leave it
+
+file-still : (log : Option Appender) (n : ℕ) (a b : HostState) (frames : List Frame) → Stands a b → IsFileOf log n a frames → IsFileOf log n b frames
+file-still None n a b frames still file = (file.0, Stands-left a b (λ m. file_in m (log_name n) ≡ None) still file.1)
+file-still (Some made) n a b frames still file = stands_still made a frames [] file b still
+
+file-said : (log : Option Appender) (n : ℕ) (a b : HostState) (frames : List Frame) (bytes : List ℕ) (answer : Result (Unit {0}) HostFault) → Said bytes a b answer → IsFileOf log n a frames → IsFileOf log n b frames
+file-said None n a b frames bytes answer said file = (file.0, left_still a b SameFiles (λ m. file_in m (log_name n) ≡ None) (Said-moves bytes a b answer said) file.1 (λ d m none same. same (log_name n) ∙ none))
+file-said (Some made) n a b frames bytes answer said file = stands_said made a frames [] file b bytes answer said
+
+-- an image that differs in no file counts the same
+
+same-files : (d e : Image) → SameFiles d e → SameCounted d e
+same-files d e same = record {
+  sound = λ sound m bytes there. sound m bytes (sym (same (log_name m)) ∙ there);
+  kept = λ n a item counted. record { bytes = counted.bytes; there = same (log_name n) ∙ counted.there; counted = counted.counted };
+  only = λ n a item counted. record { bytes = counted.bytes; there = sym (same (log_name n)) ∙ counted.there; counted = counted.counted };
+}
+
+module _ (session : Session) (a b : HostState) (plain : Plain) (frames : List Frame) (stands : SessionStands session a plain frames) where
+  -- the session stands after a call that changed nothing
+  pub session_still : Stands a b → SessionStands session b plain frames
+  session_still still = record {
+    entries = stands.entries;
+    moment = stands.moment;
+    reads = Stands-left a b (λ m. Reads m plain) still stands.reads;
+    numbers = Stands-left a b (λ m. IsAboveRecords session.next m) still stands.numbers;
+    file = file-still session.log session.file a b frames still stands.file;
+  }
+
+  -- and after a call that said something
+  pub session_said : (bytes : List ℕ) (answer : Result (Unit {0}) HostFault) → Said bytes a b answer → SessionStands session b plain frames
+  session_said bytes answer said =
+      let moves = Said-moves bytes a b answer said in
+      record {
+        entries = stands.entries;
+        moment = stands.moment;
+        reads = left_still a b SameFiles (λ m. Reads m plain) moves stands.reads (λ d m reads same. reads-same d m (same-files d m same) plain reads);
+        numbers = left_still a b SameFiles (λ m. IsAboveRecords session.next m) moves stands.numbers (λ d m above same. above-same d m (same-files d m same) session.next above);
+        file = file-said session.log session.file a b frames bytes answer said stands.file;
+      }
+
+  -- every image is ready for a put
+  pub ready-now : IsLogOf session.log session.file → AllLeft a (IsReady session.file session.next plain frames)
+  ready-now usable m left = record { reads = stands.reads m left; above = stands.numbers m left; counts = counts-file session.log session.file a frames stands.file named m left }
+    where
+      named : (made : Appender) → session.log ≡ Some made → made.name ≡ log_name session.file
+      named made is = let log = subst (λ (l : Option Appender). IsLogOf l session.file) is usable in log.0
+
+-- a session that is alike in all but what it has room for and whether it is spoilt
+pub session-like : (old new : Session) (a : HostState) (plain : Plain) (frames : List Frame)
+    → new.entries.entries ≡ old.entries.entries
+    → new.moment ≡ old.moment
+    → new.next ≡ old.next
+    → new.file ≡ old.file
+    → new.log ≡ old.log
+    → SessionStands old a plain frames
+    → SessionStands new a plain frames
+session-like old new a plain frames entries moment next file log stands = record {
+  entries = entries ∙ stands.entries;
+  moment = moment ∙ stands.moment;
+  reads = stands.reads;
+  numbers = subst (λ (n : ℕ). AllLeft a (λ m. IsAboveRecords n m)) (sym next) stands.numbers;
+  file = subst (λ (l : Option Appender). IsFileOf l new.file a frames) (sym log) (subst (λ (n : ℕ). IsFileOf old.log n a frames) (sym file) stands.file);
+}
+
+-- a session whose file was made meanwhile
+pub session-made : (old new : Session) (a b : HostState) (plain : Plain) (frames : List Frame)
+    → IsLogOf old.log old.file
+    → Moves a b (OnFile (log_name old.file) (CountsFrames frames))
+    → IsLogStanding new.log b frames
+    → new.entries.entries ≡ old.entries.entries
+    → new.moment ≡ old.moment
+    → new.next ≡ old.next
+    → SessionStands old a plain frames
+    → SessionStands new b plain frames
+session-made old new a b plain frames usable moves made entries moment next stands =
+    let ready = ready-left old.file old.next plain frames a b moves (ready-now old a b plain frames stands usable) in
+    record {
+      entries = entries ∙ stands.entries;
+      moment = moment ∙ stands.moment;
+      reads = λ m left. (ready m left).reads;
+      numbers = subst (λ (n : ℕ). AllLeft b (λ m. IsAboveRecords n m)) (sym next) (λ m left. (ready m left).above);
+      file = file-of_log new.log new.file b frames made;
+    }
+
+-- one put: the file is made where there is none, and one frame is written
+module _ (old : Session) (a b c : HostState) (plain : Plain) (frames : List Frame) (key value : List ℕ) (usable : IsLogOf old.log old.file) (stands : SessionStands old a plain frames)
+    (made : Moves a b (OnFile (log_name old.file) (CountsFrames frames)))
+    (framed : Moves b c (OnFile (log_name old.file) (CountsOneOf frames (with_frame frames (put old.next Never key value) old.moment)))) where
+  ready-made : AllLeft b (IsReady old.file old.next plain frames)
+  ready-made = ready-left old.file old.next plain frames a b made (ready-now old a b plain frames stands usable)
+
+  framed-now : Moves b c (OnFile (log_name old.file) (CountsOneOf frames (with_frame frames (put old.next Never key value) plain.moment)))
+  framed-now = subst (λ (m : ℕ). Moves b c (OnFile (log_name old.file) (CountsOneOf frames (with_frame frames (put old.next Never key value) m)))) stands.moment framed
+
+  pub put-moves : Moves a c (λ before image. ReadsOneOf plain (after_put plain key value) image)
+  put-moves =
+      then_reads a b c plain (after_put plain key value)
+      (ready-moves old.file old.next plain frames a b (after_put plain key value) made (ready-now old a b plain frames stands usable))
+      (framed-moves old.file old.next plain frames key value b c framed-now ready-made)
+
+  pub put-stands : (new : Session)
+      → IsLogOf new.log new.file
+      → IsLogStanding new.log c (with_frame frames (put old.next Never key value) old.moment)
+      → new.entries.entries ≡ insert old.entries.entries key (record { value = value; until = Never })
+      → new.moment ≡ old.moment
+      → new.next ≡ old.next + 1
+      → new.file ≡ old.file
+      → SessionStands new c (after_put plain key value) (with_frame frames (put old.next Never key value) old.moment)
+  put-stands new usable_new log entries moment next file = record {
+    entries = entries ∙ ap (λ (m : PlainMap). insert m key (record { value = value; until = Never })) stands.entries;
+    moment = moment ∙ stands.moment;
+    reads = λ m left. (now m left).reads;
+    numbers = subst (λ (n : ℕ). AllLeft c (λ m. IsAboveRecords n m)) (sym next) (λ m left. (now m left).above);
+    file = file-of_log new.log new.file c (with_frame frames (put old.next Never key value) old.moment) log;
+  }
+    where
+      -- the frame counts in every image
+      has : (l : Option Appender) → IsLogOf l new.file → IsLogStanding l c (with_frame frames (put old.next Never key value) old.moment) → AllLeft c (HasFile (log_name new.file) (CountsFrames (with_frame frames (put old.next Never key value) old.moment)))
+      has None is standing m left = absurd standing
+      has (Some made) is standing m left =
+          subst (λ (name : FileName). HasFile name (CountsFrames (with_frame frames (put old.next Never key value) old.moment)) m) is.0
+          (counted_now made c (with_frame frames (put old.next Never key value) old.moment) [] standing m left)
+
+      now : AllLeft c (IsPutNow old.file old.next plain frames key value)
+      now =
+          framed-left old.file old.next plain frames key value b c framed-now ready-made
+          (λ m left. subst (λ (n : ℕ). HasFile (log_name n) (CountsFrames (with_frame frames (put old.next Never key value) plain.moment)) m) file
+              (subst (λ (t : ℕ). HasFile (log_name new.file) (CountsFrames (with_frame frames (put old.next Never key value) t)) m) stands.moment (has new.log usable_new log m left)))
+
+-- what isn't spent
+
+untaken : (b : Bool) (x : Spent) (o : Option Spent) → (if b then Some x else o) ≡ None → (b ≡ false) × (o ≡ None)
+untaken true x o is = cc
+untaken false x o is = (refl, is)
+
+no-some : (o : Option Spent) → ((x : Spent) → o ≡ Some x → ⊥) → o ≡ None
+no-some None none = refl
+no-some (Some x) none = absurd (none x refl)
+
+-- Neither the sequence number is spent nor the file's.
+pub record IsUnspent (session : Session) (bytes : ℕ) : Type 0 where
+  pub next : session.next < 2 ^ 62
+  pub file : spent_in_file session.log session.file (23 + bytes) ≡ None
+
+pub unspent : (session : Session) (bytes : ℕ) (o : Option Spent) → o ≡ spent_by session bytes → ((x : Spent) → o ≡ Some x → ⊥) → IsUnspent session bytes
+unspent session bytes o is none =
+    let neither = untaken (session.next == 2 ^ 62) (Sequence session.next) (spent_in_file session.log session.file (23 + bytes)) (sym is ∙ no-some o none) in
+    let at_most : session.next ≤ 2 ^ 62 = session.next_fits in
+    record { next = below session.next at_most neither.0; file = neither.1 }
+  where
+    below : (n : ℕ) → n ≤ 2 ^ 62 → (n == 2 ^ 62) ≡ false → n < 2 ^ 62
+    below n le apart = grind (arith, nat_tests)
