@@ -5,11 +5,14 @@ use Rattle.cache_model.specs.declared.faults.StoreFault.{StoreFault}
 use Rattle.cache_model.specs.declared.faults.StoreFault.TheVariants as fault
 use Rattle.cache_model.specs.Items.{put, IsRecord, spelling}
 use Rattle.cache_model.specs.DataFiles.{Frame}
-use Rattle.cache_model.specs.Plain.{Plain}
+use Rattle.cache_model.specs.Plain.{Plain, PlainMap}
 use Rattle.cache_model.proofs.Spelled.{length-spelling}
 use Rattle.cache_disk.proofs.Runs.{Silent-trans}
 use Rattle.cache_session.specs.declared.session.Session.{Session}
-use Rattle.cache_session.specs.Session.{IsUsable, SessionStands, HasRoom, spent_in_file, after_put}
+use Rattle.cache_session.specs.Session.{IsUsable, SessionStands, HasRoom, IsLogStanding, spent_in_file, after_put}
+use Rattle.data_file.specs.declared.appender.Appender.{Appender}
+use Rattle.std.specs.FinMap.{insert}
+use Rattle.cache_session.proofs.Counting.{with_frame}
 use Rattle.cache_session.proofs.Standing.{IsUnspent, unspent, ready-moves, ready-now, file-like, frame-like, session-like, session-made, session_still, put-moves, put-stands}
 use Rattle.cache_session.proofs.session.Session.put.Goals as goal
 
@@ -19,8 +22,8 @@ is_record next key value below some most value_most = (below, tt, (some, most), 
 
 -- the fault that is handed on
 handed_on : (r : Result (Unit {0}) StoreFault) (f wanted : StoreFault) → IsErr r × IsErrAnd r (λ given. given ≡ f) → IsErrOf r wanted → f ≡ wanted
-handed_on (Ok v) f wanted given of = absurd of
-handed_on (Err e) f wanted given of = sym given.1 ∙ of
+handed_on (Ok v) f wanted given of = cc
+handed_on (Err e) f wanted given of = let same : e ≡ wanted = cc in sym given.1 ∙ same
 
 pub returns-in_err-spelled-clause-kept : goal.returns-in_err-spelled-clause-kept
 returns-in_err-spelled-clause-kept g c told plain frames stands memory sound =
@@ -70,8 +73,8 @@ returns-in_err-write_frame-clause-kept g c told plain frames stands memory sound
     let of = handed_on c.from_residual-in_err-write_frame.result c.in_err-write_frame.field-0.0 fault.Memory c.from_residual-in_err-write_frame.ensures memory in
     let now = session-made old c.make_log.new.self a b plain frames c.requires.usable made log
         (ap (λ (s : Session). s.entries.entries) made_rest ∙ c.prepare.ensures.entries) moment (ap (λ (s : Session). s.next) made_rest ∙ ap (λ (s : Session). s.next) rest) stands in
-    let still = session_still c.make_log.new.self b d plain frames now (c.in_err-write_frame.ensures.kept told of sound) in
-    subst (λ (s : Session). SessionStands s d plain frames) (sym (c.in_err-write_frame.ensures.memory of sound)) still
+    let still = session_still c.make_log.new.self b d plain frames now (c.in_err-write_frame.ensures.kept told (ap (λ (x : StoreFault). Err x) of) sound) in
+    subst (λ (s : Session). SessionStands s d plain frames) (sym (c.in_err-write_frame.ensures.memory (ap (λ (x : StoreFault). Err x) of) sound)) still
 
 pub returns-in_err-write_frame-clause-images : goal.returns-in_err-write_frame-clause-images
 returns-in_err-write_frame-clause-images g c told plain frames stands =
@@ -138,7 +141,18 @@ returns-clause-stands g c told plain frames stands =
     let spelled : c.deref.result.now ≡ spelling one = c.deref.ensures.value ∙ c.in_ok-spelled.ensures.spelled in
     let images = c.write_frame.ensures.images told frames one log is spelled in
     let framed = frame-like b d old.file c.make_log.new.self.file frames one old.moment c.make_log.new.self.moment file moment images in
-    ?
+    let frame_rest = c.write_frame.ensures.rest in
+    let kept_rest = c.keep.ensures.rest in
+    let wrote = c.in_ok-write_frame.ensures in
+    let usable : IsUsable c.keep.new.self = subst (λ (s : Session). IsUsable s) (sym kept_rest) (wrote.usable wrote.sound) in
+    let sealed_log = wrote.stands told frames one log is spelled in
+    let sealed_then = subst (λ (m : ℕ). IsLogStanding c.write_frame.new.self.log d (with_frame frames one m)) moment sealed_log in
+    let sealed_now = subst (λ (l : Option Appender). IsLogStanding l d (with_frame frames one old.moment)) (sym (ap (λ (s : Session). s.log) kept_rest)) sealed_then in
+    put-stands old a b d plain frames c.args.key c.args.value c.requires.usable stands made framed c.keep.new.self usable sealed_now
+    (c.keep.ensures.entries ∙ ap (λ (m : PlainMap). insert m c.args.key (record { value = c.args.value; until = Never })) (ap (λ (s : Session). s.entries.entries) frame_rest ∙ ap (λ (s : Session). s.entries.entries) made_rest ∙ c.prepare.ensures.entries))
+    (ap (λ (s : Session). s.moment) kept_rest ∙ ap (λ (s : Session). s.moment) frame_rest ∙ moment)
+    (c.keep.ensures.next ∙ ap (λ (s : Session). s.next + 1) frame_rest ∙ ap (λ (s : Session). s.next + 1) made_rest ∙ ap (λ (s : Session). s.next + 1) rest)
+    (ap (λ (s : Session). s.file) kept_rest ∙ ap (λ (s : Session). s.file) frame_rest ∙ file)
 
 pub returns-clause-images : goal.returns-clause-images
 returns-clause-images g c told plain frames stands =
