@@ -1,5 +1,5 @@
 -- What counts in an image, when one data file of it changes.
-use Rattle.std.proofs.Common.{◌≡◌, ◌⊎◌, ⊎_elim, inl, inr, ℕ, ◌==◌, ◌<◌, ◌≤◌, false, true, Bool, List, [], ◌∷◌, ◌++◌, Option, Some, None, IsSome, refl, sym, ◌∙◌, ap, subst, arith}
+use Rattle.std.proofs.Common.{◌≡◌, ◌⊎◌, ⊎_elim, inl, inr, ℕ, ◌==◌, false, true, Bool, List, [], ◌∷◌, ◌++◌, None, refl, sym, ◌∙◌, ap, subst, arith}
 use Rattle.std.proofs.lemmas.Bool.Decides.{nat_tests}
 use Rattle.std.specs.Prelude.{Contains}
 use Rattle.std.proofs.lemmas.List.{append-nil}
@@ -7,7 +7,7 @@ use Rattle.std.proofs.lemmas.List.Elements.{Contains-append_left, Contains-push,
 use Rattle.cache_model.specs.declared.files.FileName.{FileName}
 use Rattle.cache_model.specs.Files.{Image, file_in, is_name}
 use Rattle.cache_model.specs.Items.{Item, end}
-use Rattle.cache_model.specs.DataFiles.{Frame, CountsFrames, counted_items, first_damage, placed_frames, found_of, found_in, Found, IsUndamaged}
+use Rattle.cache_model.specs.DataFiles.{Frame, CountsFrames, counted_items, placed_frames, Found, IsUndamaged}
 use Rattle.cache_model.specs.Images.{log_name, IsCounted, IsSound}
 use Rattle.cache_disk.specs.State.{SameBut}
 use Rattle.data_file.specs.Appending.{sealed, next_place}

@@ -1,18 +1,17 @@
 -- What an image reads as, when the same counts in it or one put more.
-use Rattle.std.proofs.Common.{◌≡◌, ◌⊎◌, ⊎_elim, inl, inr, ℕ, ◌+◌, ◌<◌, ◌≤◌, Bool, true, false, cond, List, [], ◌∷◌, Option, Some, None, refl, sym, ◌∙◌, ap, subst, arith}
-use Rattle.std.specs.Ordering.{nat_cmp, is_eq, eq_by_cmp}
+use Rattle.std.proofs.Common.{◌≡◌, ◌⊎◌, ⊎_elim, inl, inr, ℕ, ◌+◌, Bool, true, false, cond, List, Option, Some, refl, sym, ◌∙◌, ap, subst, arith}
+use Rattle.std.specs.Ordering.{is_eq, eq_by_cmp}
 use Rattle.std.specs.declared.cmp.Ordering.{Ordering}
 use Rattle.std.specs.declared.cmp.Ordering.TheVariants.{Less, Equal, Greater}
-use Rattle.std.specs.Cmp.Lexicographic.{slice_cmp, nat_list_cmp_total}
+use Rattle.std.specs.Cmp.Lexicographic.{nat_list_cmp_total}
 use Rattle.std.specs.Cmp.{eq_by_cmp_equiv}
 use Rattle.std.specs.FinMap.{get, insert, get-insert}
 use Rattle.cache_model.specs.declared.entries.Entry.{Entry}
 use Rattle.cache_model.specs.declared.entries.Until.TheVariants.{Never}
-use Rattle.cache_model.specs.Files.{Image, file_in}
+use Rattle.cache_model.specs.Files.{Image}
 use Rattle.cache_model.specs.Items.{Item, put, end}
-use Rattle.cache_model.specs.DataFiles.{Frame, CountsFrames}
 use Rattle.cache_model.specs.Plain.{Plain, PlainMap}
-use Rattle.cache_model.specs.Images.{log_name, IsCounted, key_of, sequence_of, entry_by, IsNoNewer, IsNewest, HasNoRecord, HasEntry, IsMarkBound, Reads}
+use Rattle.cache_model.specs.Images.{IsCounted, key_of, sequence_of, IsNoNewer, IsNewest, HasEntry, IsMarkBound, Reads}
 use Rattle.cache_model.proofs.PlainEntries.{order, order-IsAntisymmetric}
 use Rattle.cache_session.specs.Session.{IsAboveRecords, after_put}
 use Rattle.cache_session.proofs.Counting.{SameCounted, MoreCounted}

@@ -1,5 +1,5 @@
 -- What a session stands for, over the calls of a put.
-use Rattle.std.proofs.Common.{◌≡◌, ◌⊎◌, ⊎_elim, inl, inr, ℕ, ◌+◌, ◌^◌, ◌==◌, ◌<◌, ◌≤◌, Bool, true, false, if◌then◌else◌, List, [], ◌∷◌, ◌++◌, Option, Some, None, Result, IsSome, refl, sym, ◌∙◌, ap, subst, arith}
+use Rattle.std.proofs.Common.{◌≡◌, ◌⊎◌, ⊎_elim, inl, inr, ℕ, ◌+◌, ◌^◌, ◌==◌, ◌<◌, ◌≤◌, Bool, true, false, if◌then◌else◌, List, [], ◌∷◌, Option, Some, None, Result, refl, sym, ◌∙◌, ap, subst, arith}
 use Rattle.std.proofs.Math.Nat.{eq-or-lt_of_le}
 use Rattle.std.proofs.lemmas.Bool.Decides.{nat_tests}
 use Rattle.cache_model.specs.declared.faults.Spent.{Spent}
@@ -7,7 +7,7 @@ use Rattle.cache_model.specs.declared.faults.Spent.TheVariants.{Sequence}
 use Rattle.cache_model.specs.declared.entries.Until.TheVariants.{Never}
 use Rattle.cache_model.specs.declared.files.FileName.{FileName}
 use Rattle.cache_model.specs.Files.{Image, file_in}
-use Rattle.cache_model.specs.Items.{Item, put, end}
+use Rattle.cache_model.specs.Items.{Item, put}
 use Rattle.cache_model.specs.DataFiles.{Frame, CountsFrames}
 use Rattle.cache_model.specs.Plain.{Plain, PlainMap}
 use Rattle.std.specs.FinMap.{insert}
@@ -15,9 +15,9 @@ use Rattle.cache_model.specs.Images.{log_name, Reads}
 use Rattle.cache_disk.specs.declared.host.HostFault.{HostFault}
 use Rattle.cache_disk.specs.State.{HostState, SameFiles, Moves, Stands}
 use Rattle.cache_disk.specs.Calls.{OnFile, AllLeft, HasFile, Said}
-use Rattle.cache_disk.proofs.Runs.{HasFile-step, left_still, weaker, goes_on, goes_on_file, weaker_on_file, Stands-moves, Stands-left, Said-moves}
+use Rattle.cache_disk.proofs.Runs.{HasFile-step, left_still, weaker, goes_on, goes_on_file, weaker_on_file, Stands-left, Said-moves}
 use Rattle.data_file.specs.declared.appender.Appender.{Appender}
-use Rattle.data_file.specs.Appending.{StandsFor, CountsOneOf, sealed}
+use Rattle.data_file.specs.Appending.{CountsOneOf, sealed}
 use Rattle.data_file.proofs.Frame.{counted_now, stands_still, stands_said}
 use Rattle.cache_session.specs.declared.session.Session.{Session}
 use Rattle.cache_session.specs.Session.{IsLogOf, IsFileOf, IsLogStanding, IsAboveRecords, SessionStands, after_put, ReadsOneOf, spent_in_file, spent_by}
@@ -156,9 +156,9 @@ pub frame-run : (name first second : FileName) (a b c : HostState) (frames : Lis
 frame-run name first second a b c frames one moment is_name same ab bc =
     subst (λ (n : FileName). Moves a c (OnFile n (CountsOneOf frames (sealed frames (one ∷ []) moment)))) is_name
     (goes_on_file a b c first (CountsOneOf frames (sealed frames (one ∷ []) moment)) (OnFile first (CountsOneOf frames (sealed frames (one ∷ []) moment)))
-        (weaker_on_file a b first (CountsFrames frames) (CountsOneOf frames (sealed frames (one ∷ []) moment)) ab (λ bytes counts. inl counts))
-        (subst (λ (n : FileName). Moves b c (OnFile n (CountsOneOf frames (sealed frames (one ∷ []) moment)))) same bc)
-        (λ e m left step. step))
+    (weaker_on_file a b first (CountsFrames frames) (CountsOneOf frames (sealed frames (one ∷ []) moment)) ab (λ bytes counts. inl counts))
+    (subst (λ (n : FileName). Moves b c (OnFile n (CountsOneOf frames (sealed frames (one ∷ []) moment)))) same bc)
+    (λ e m left step. step))
 
 -- the frame is that of this moment, in the file with this number
 pub frame-like : (b c : HostState) (n other : ℕ) (frames : List Frame) (one : Item) (moment later : ℕ) → other ≡ n → later ≡ moment
@@ -304,7 +304,7 @@ module _ (old : Session) (a b c : HostState) (plain : Plain) (frames : List Fram
       now =
           framed-left old.file old.next plain frames key value b c framed-now ready-made
           (λ m left. subst (λ (n : ℕ). HasFile (log_name n) (CountsFrames (with_frame frames (put old.next Never key value) plain.moment)) m) file
-              (subst (λ (t : ℕ). HasFile (log_name new.file) (CountsFrames (with_frame frames (put old.next Never key value) t)) m) stands.moment (has new.log usable_new log m left)))
+          (subst (λ (t : ℕ). HasFile (log_name new.file) (CountsFrames (with_frame frames (put old.next Never key value) t)) m) stands.moment (has new.log usable_new log m left)))
 
 -- what isn't spent
 

@@ -1,12 +1,11 @@
 -- What a session stands for: one plain map, in memory and in every image that a crash may leave.
-use Rattle.std.specs.Prelude.{◌≡◌, ◌⊎◌, ℕ, ◌+◌, ◌-◌, ◌^◌, ◌<◌, ◌≤◌, ◌==◌, ◌&&◌, Bool, true, false, List, [], ◌∷◌, ◌++◌, length, Option, Some, None, if◌then◌else◌, nat_lt, max}
+use Rattle.std.specs.Prelude.{◌≡◌, ◌⊎◌, ℕ, ◌+◌, ◌-◌, ◌^◌, ◌<◌, ◌==◌, Bool, false, List, [], ◌∷◌, Option, Some, None, if◌then◌else◌, nat_lt, max}
 use Rattle.std.specs.FinMap.{get, insert}
 use Rattle.cache_model.specs.declared.entries.Until.TheVariants.{Never}
 use Rattle.cache_model.specs.declared.entries.Lifespan.TheVariants.{Endless}
 use Rattle.cache_model.specs.declared.commands.Command.TheVariants.{Put}
 use Rattle.cache_model.specs.declared.faults.Spent.{Spent}
 use Rattle.cache_model.specs.declared.faults.Spent.TheVariants.{Files, Sequence}
-use Rattle.cache_model.specs.declared.files.FileName.{FileName}
 use Rattle.cache_model.specs.Files.{Image, IsFileName, file_in}
 use Rattle.cache_model.specs.Items.{Item, put}
 use Rattle.cache_model.specs.DataFiles.{Frame}

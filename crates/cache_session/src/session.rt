@@ -18,7 +18,9 @@ ghost use Rattle.data_file.specs.Appending.{IsRecordSpelling, CountsOneOf, IsHos
 
 use crate::entries::Entries;
 use cache_disk::Host;
-use cache_model::{Entry, FileKind, FileName, Key, ModelFault, Reply, Spent, StoreFault, Until, Value};
+use cache_model::{
+    Entry, FileKind, FileName, Key, ModelFault, Reply, Spent, StoreFault, Until, Value,
+};
 use data_file::Appender;
 use record_format::{OwnItem, encode};
 
@@ -77,7 +79,8 @@ impl Session {
     }
 
     /// Puts an entry that never expires: the next sequence number, as one sealed frame of the session's file, which the
-    /// first put makes. From Ok on no crash loses it. After `Memory` where the session isn't spoilt nothing has changed.
+    /// first put makes. From Ok on no crash loses it. After `Memory` where the session isn't spoilt it stands for what it
+    /// stood for; its file may have been made.
     pub fn put<H: Host>(&mut self, host: &mut H, key: Key, value: Value) -> Result<(), StoreFault>
         requires sound { is_session_spoilt self.old ≡ false }
         requires usable { IsUsable self.old }
@@ -251,7 +254,10 @@ impl Session {
                 key,
                 value,
             } => self.entries.put(key, Entry { value, until }),
-            OwnItem::Removal { seq: _seq, key: _key } => unreachable!(),
+            OwnItem::Removal {
+                seq: _seq,
+                key: _key,
+            } => unreachable!(),
             OwnItem::End { moment: _moment } => unreachable!(),
         }
         self.next += 1;

@@ -1,11 +1,10 @@
-use Rattle.std.proofs.Common.{◌≡◌, ◌<◌, ◌≤◌, ◌^◌, ◌+◌, Option, Some, None, Result, Ok, Err, List, ℕ, [], ◌∷◌, inl, subst, sym, ◌∙◌, ap, refl, arith, length}
+use Rattle.std.proofs.Common.{◌≡◌, ◌<◌, ◌≤◌, ◌^◌, ◌+◌, Option, Result, Ok, Err, List, ℕ, subst, sym, ◌∙◌, ap, arith, length}
 use Rattle.std.specs.Prelude.{IsErr, IsErrOf, IsErrAnd}
 use Rattle.cache_model.specs.declared.entries.Until.TheVariants.{Never}
 use Rattle.cache_model.specs.declared.faults.StoreFault.{StoreFault}
 use Rattle.cache_model.specs.declared.faults.StoreFault.TheVariants as fault
 use Rattle.cache_model.specs.Items.{put, IsRecord, spelling}
-use Rattle.cache_model.specs.DataFiles.{Frame}
-use Rattle.cache_model.specs.Plain.{Plain, PlainMap}
+use Rattle.cache_model.specs.Plain.{PlainMap}
 use Rattle.cache_model.proofs.Spelled.{length-spelling}
 use Rattle.cache_disk.proofs.Runs.{Silent-trans}
 use Rattle.cache_session.specs.declared.session.Session.{Session}
@@ -29,7 +28,7 @@ pub returns-in_err-spelled-clause-kept : goal.returns-in_err-spelled-clause-kept
 returns-in_err-spelled-clause-kept g c told plain frames stands memory sound =
     let rest = c.prepare.ensures.rest in
     session-like c.args.self.now c.prepare.new.self (g.H.Host.state c.args.host.now) plain frames c.prepare.ensures.entries
-        (ap (λ (s : Session). s.moment) rest) (ap (λ (s : Session). s.next) rest) (ap (λ (s : Session). s.file) rest) (ap (λ (s : Session). s.log) rest) stands
+    (ap (λ (s : Session). s.moment) rest) (ap (λ (s : Session). s.next) rest) (ap (λ (s : Session). s.file) rest) (ap (λ (s : Session). s.log) rest) stands
 
 pub returns-in_err-make_log-clause-images : goal.returns-in_err-make_log-clause-images
 returns-in_err-make_log-clause-images g c told plain frames stands =
@@ -38,7 +37,7 @@ returns-in_err-make_log-clause-images g c told plain frames stands =
     let old = c.args.self.now in
     let rest = c.prepare.ensures.rest in
     let prepared = session-like old c.prepare.new.self a plain frames c.prepare.ensures.entries
-        (ap (λ (s : Session). s.moment) rest) (ap (λ (s : Session). s.next) rest) (ap (λ (s : Session). s.file) rest) (ap (λ (s : Session). s.log) rest) stands in
+    (ap (λ (s : Session). s.moment) rest) (ap (λ (s : Session). s.next) rest) (ap (λ (s : Session). s.file) rest) (ap (λ (s : Session). s.log) rest) stands in
     let made = file-like a b old.file c.prepare.new.self.file frames (ap (λ (s : Session). s.file) rest) (c.make_log.ensures.images told frames prepared.file) in
     ready-moves old.file old.next plain frames a b (after_put plain c.args.key c.args.value) made (ready-now old a b plain frames stands c.requires.usable)
 
@@ -50,10 +49,10 @@ write_frame-requires-clause-room g c =
     let free : IsUnspent old bytes = unspent old bytes c.spent.result c.spent.ensures c.in_default.not-Some in
     let small : 23 + bytes ≤ 66583 = omega (arith, c.bytes.ensures.within.1, c.bytes-2.ensures.within, ap (λ (l : List ℕ). length l) c.bytes.ensures.bytes, ap (λ (l : List ℕ). length l) c.bytes-2.ensures.bytes) in
     let room : HasRoom c.make_log.new.self.log (23 + bytes) = c.in_ok-make_log.ensures.room (23 + bytes) small
-        (ap (λ (s : Session). spent_in_file s.log s.file (23 + bytes)) rest ∙ free.file) in
+    (ap (λ (s : Session). spent_in_file s.log s.file (23 + bytes)) rest ∙ free.file) in
     let spelled : c.deref.result.now ≡ spelling (put old.next Never c.args.key c.args.value) = c.deref.ensures.value ∙ c.in_ok-spelled.ensures.spelled in
     let size : length c.deref.result.now ≡ 23 + bytes =
-        omega (arith, ap (λ (l : List ℕ). length l) spelled, length-spelling (put old.next Never c.args.key c.args.value), ap (λ (l : List ℕ). length l) c.bytes.ensures.bytes, ap (λ (l : List ℕ). length l) c.bytes-2.ensures.bytes) in
+    omega (arith, ap (λ (l : List ℕ). length l) spelled, length-spelling (put old.next Never c.args.key c.args.value), ap (λ (l : List ℕ). length l) c.bytes.ensures.bytes, ap (λ (l : List ℕ). length l) c.bytes-2.ensures.bytes) in
     subst (λ (n : ℕ). HasRoom c.make_log.new.self.log n) (sym size) room
 
 pub returns-in_err-write_frame-clause-kept : goal.returns-in_err-write_frame-clause-kept
@@ -67,12 +66,12 @@ returns-in_err-write_frame-clause-kept g c told plain frames stands memory sound
     let file : c.make_log.new.self.file ≡ old.file = ap (λ (s : Session). s.file) made_rest ∙ ap (λ (s : Session). s.file) rest in
     let moment : c.make_log.new.self.moment ≡ old.moment = ap (λ (s : Session). s.moment) made_rest ∙ ap (λ (s : Session). s.moment) rest in
     let prepared = session-like old c.prepare.new.self a plain frames c.prepare.ensures.entries
-        (ap (λ (s : Session). s.moment) rest) (ap (λ (s : Session). s.next) rest) (ap (λ (s : Session). s.file) rest) (ap (λ (s : Session). s.log) rest) stands in
+    (ap (λ (s : Session). s.moment) rest) (ap (λ (s : Session). s.next) rest) (ap (λ (s : Session). s.file) rest) (ap (λ (s : Session). s.log) rest) stands in
     let made = file-like a b old.file c.prepare.new.self.file frames (ap (λ (s : Session). s.file) rest) (c.make_log.ensures.images told frames prepared.file) in
     let log = c.in_ok-make_log.ensures.stands told frames prepared.file in
     let of = handed_on c.from_residual-in_err-write_frame.result c.in_err-write_frame.field-0.0 fault.Memory c.from_residual-in_err-write_frame.ensures memory in
     let now = session-made old c.make_log.new.self a b plain frames c.requires.usable made log
-        (ap (λ (s : Session). s.entries.entries) made_rest ∙ c.prepare.ensures.entries) moment (ap (λ (s : Session). s.next) made_rest ∙ ap (λ (s : Session). s.next) rest) stands in
+    (ap (λ (s : Session). s.entries.entries) made_rest ∙ c.prepare.ensures.entries) moment (ap (λ (s : Session). s.next) made_rest ∙ ap (λ (s : Session). s.next) rest) stands in
     let still = session_still c.make_log.new.self b d plain frames now (c.in_err-write_frame.ensures.kept told (ap (λ (x : StoreFault). Err x) of) sound) in
     subst (λ (s : Session). SessionStands s d plain frames) (sym (c.in_err-write_frame.ensures.memory (ap (λ (x : StoreFault). Err x) of) sound)) still
 
@@ -87,7 +86,7 @@ returns-in_err-write_frame-clause-images g c told plain frames stands =
     let file : c.make_log.new.self.file ≡ old.file = ap (λ (s : Session). s.file) made_rest ∙ ap (λ (s : Session). s.file) rest in
     let moment : c.make_log.new.self.moment ≡ old.moment = ap (λ (s : Session). s.moment) made_rest ∙ ap (λ (s : Session). s.moment) rest in
     let prepared = session-like old c.prepare.new.self a plain frames c.prepare.ensures.entries
-        (ap (λ (s : Session). s.moment) rest) (ap (λ (s : Session). s.next) rest) (ap (λ (s : Session). s.file) rest) (ap (λ (s : Session). s.log) rest) stands in
+    (ap (λ (s : Session). s.moment) rest) (ap (λ (s : Session). s.next) rest) (ap (λ (s : Session). s.file) rest) (ap (λ (s : Session). s.log) rest) stands in
     let made = file-like a b old.file c.prepare.new.self.file frames (ap (λ (s : Session). s.file) rest) (c.make_log.ensures.images told frames prepared.file) in
     let log = c.in_ok-make_log.ensures.stands told frames prepared.file in
     let one = put old.next Never c.args.key c.args.value in
@@ -112,7 +111,7 @@ returns-in_err-write_frame-clause-silent g c told =
     let file : c.make_log.new.self.file ≡ old.file = ap (λ (s : Session). s.file) made_rest ∙ ap (λ (s : Session). s.file) rest in
     let moment : c.make_log.new.self.moment ≡ old.moment = ap (λ (s : Session). s.moment) made_rest ∙ ap (λ (s : Session). s.moment) rest in
     let prepared = session-like old c.prepare.new.self a plain frames c.prepare.ensures.entries
-        (ap (λ (s : Session). s.moment) rest) (ap (λ (s : Session). s.next) rest) (ap (λ (s : Session). s.file) rest) (ap (λ (s : Session). s.log) rest) stands in
+    (ap (λ (s : Session). s.moment) rest) (ap (λ (s : Session). s.next) rest) (ap (λ (s : Session). s.file) rest) (ap (λ (s : Session). s.log) rest) stands in
     let made = file-like a b old.file c.prepare.new.self.file frames (ap (λ (s : Session). s.file) rest) (c.make_log.ensures.images told frames prepared.file) in
     let log = c.in_ok-make_log.ensures.stands told frames prepared.file in
     let one = put old.next Never c.args.key c.args.value in
@@ -133,7 +132,7 @@ returns-clause-stands g c told plain frames stands =
     let file : c.make_log.new.self.file ≡ old.file = ap (λ (s : Session). s.file) made_rest ∙ ap (λ (s : Session). s.file) rest in
     let moment : c.make_log.new.self.moment ≡ old.moment = ap (λ (s : Session). s.moment) made_rest ∙ ap (λ (s : Session). s.moment) rest in
     let prepared = session-like old c.prepare.new.self a plain frames c.prepare.ensures.entries
-        (ap (λ (s : Session). s.moment) rest) (ap (λ (s : Session). s.next) rest) (ap (λ (s : Session). s.file) rest) (ap (λ (s : Session). s.log) rest) stands in
+    (ap (λ (s : Session). s.moment) rest) (ap (λ (s : Session). s.next) rest) (ap (λ (s : Session). s.file) rest) (ap (λ (s : Session). s.log) rest) stands in
     let made = file-like a b old.file c.prepare.new.self.file frames (ap (λ (s : Session). s.file) rest) (c.make_log.ensures.images told frames prepared.file) in
     let log = c.in_ok-make_log.ensures.stands told frames prepared.file in
     let one = put old.next Never c.args.key c.args.value in
@@ -165,7 +164,7 @@ returns-clause-images g c told plain frames stands =
     let file : c.make_log.new.self.file ≡ old.file = ap (λ (s : Session). s.file) made_rest ∙ ap (λ (s : Session). s.file) rest in
     let moment : c.make_log.new.self.moment ≡ old.moment = ap (λ (s : Session). s.moment) made_rest ∙ ap (λ (s : Session). s.moment) rest in
     let prepared = session-like old c.prepare.new.self a plain frames c.prepare.ensures.entries
-        (ap (λ (s : Session). s.moment) rest) (ap (λ (s : Session). s.next) rest) (ap (λ (s : Session). s.file) rest) (ap (λ (s : Session). s.log) rest) stands in
+    (ap (λ (s : Session). s.moment) rest) (ap (λ (s : Session). s.next) rest) (ap (λ (s : Session). s.file) rest) (ap (λ (s : Session). s.log) rest) stands in
     let made = file-like a b old.file c.prepare.new.self.file frames (ap (λ (s : Session). s.file) rest) (c.make_log.ensures.images told frames prepared.file) in
     let log = c.in_ok-make_log.ensures.stands told frames prepared.file in
     let one = put old.next Never c.args.key c.args.value in
@@ -190,7 +189,7 @@ returns-clause-silent g c told =
     let file : c.make_log.new.self.file ≡ old.file = ap (λ (s : Session). s.file) made_rest ∙ ap (λ (s : Session). s.file) rest in
     let moment : c.make_log.new.self.moment ≡ old.moment = ap (λ (s : Session). s.moment) made_rest ∙ ap (λ (s : Session). s.moment) rest in
     let prepared = session-like old c.prepare.new.self a plain frames c.prepare.ensures.entries
-        (ap (λ (s : Session). s.moment) rest) (ap (λ (s : Session). s.next) rest) (ap (λ (s : Session). s.file) rest) (ap (λ (s : Session). s.log) rest) stands in
+    (ap (λ (s : Session). s.moment) rest) (ap (λ (s : Session). s.next) rest) (ap (λ (s : Session). s.file) rest) (ap (λ (s : Session). s.log) rest) stands in
     let made = file-like a b old.file c.prepare.new.self.file frames (ap (λ (s : Session). s.file) rest) (c.make_log.ensures.images told frames prepared.file) in
     let log = c.in_ok-make_log.ensures.stands told frames prepared.file in
     let one = put old.next Never c.args.key c.args.value in

@@ -1,5 +1,4 @@
-use Rattle.std.proofs.Common.{◌≡◌, Option, Some, List, ℕ, [], ◌∷◌, inl, subst, sym, ◌∙◌, ap}
-use Rattle.cache_model.specs.DataFiles.{Frame}
+use Rattle.std.proofs.Common.{Option, [], ◌∷◌, subst}
 use Rattle.data_file.specs.declared.appender.Appender.{Appender}
 use Rattle.cache_session.specs.Session.{IsLogStanding, IsLogOf}
 use Rattle.cache_session.proofs.Standing.{frame-run}
