@@ -1,13 +1,12 @@
 -- What a session stands for: one plain map, in memory and in every image that a crash may leave.
-use Rattle.std.specs.Prelude.{◌≡◌, ◌⊎◌, ℕ, ◌+◌, ◌-◌, ◌^◌, ◌<◌, ◌≤◌, ◌==◌, ◌&&◌, Bool, true, false, List, [], ◌∷◌, ◌++◌, length, Option, Some, None, if◌then◌else◌, nat_lt, max}
-use Rattle.std.specs.FinMap.{get}
+use Rattle.std.specs.Prelude.{◌≡◌, ◌⊎◌, ℕ, ◌+◌, ◌-◌, ◌^◌, ◌<◌, ◌==◌, Bool, false, List, [], ◌∷◌, Option, Some, None, if◌then◌else◌, nat_lt, max}
+use Rattle.std.specs.FinMap.{get, insert}
 use Rattle.cache_model.specs.declared.entries.Until.TheVariants.{Never}
 use Rattle.cache_model.specs.declared.entries.Lifespan.TheVariants.{Endless}
 use Rattle.cache_model.specs.declared.commands.Command.TheVariants.{Put}
 use Rattle.cache_model.specs.declared.faults.Spent.{Spent}
 use Rattle.cache_model.specs.declared.faults.Spent.TheVariants.{Files, Sequence}
-use Rattle.cache_model.specs.declared.files.FileName.{FileName}
-use Rattle.cache_model.specs.Files.{Image, file_in}
+use Rattle.cache_model.specs.Files.{Image, IsFileName, file_in}
 use Rattle.cache_model.specs.Items.{Item, put}
 use Rattle.cache_model.specs.DataFiles.{Frame}
 use Rattle.cache_model.specs.Plain.{Plain, PlainMap, plain_after}
@@ -16,6 +15,8 @@ use Rattle.cache_disk.specs.State.{HostState}
 use Rattle.cache_disk.specs.Calls.{AllLeft}
 use Rattle.data_file.specs.declared.appender.Appender.{Appender}
 use Rattle.data_file.specs.Appending.{name_of, size_of, is_spoilt, StandsFor}
+use Rattle.record_format.specs.declared.items.OwnItem.{OwnItem}
+use Rattle.record_format.specs.declared.items.OwnItem.TheVariants as own
 use Rattle.cache_session.specs.declared.session.Session.{Session}
 
 -- the entries that the session holds in memory
@@ -41,7 +42,7 @@ is_session_spoilt session = session.spoilt
 -- what writes the session's file, where it is made, writes that file and may be used
 abbrev pub IsLogOf : Option Appender → ℕ → Type 0
 IsLogOf None number = Unit {0}
-IsLogOf (Some log) number = (name_of log ≡ log_name number) × (is_spoilt log ≡ false)
+IsLogOf (Some log) number = (name_of log ≡ log_name number) × (is_spoilt log ≡ false) × IsFileName (log_name number)
 
 -- the session may be used, as far as its file goes
 abbrev pub IsUsable : Session → Type 0
@@ -51,6 +52,28 @@ IsUsable session = IsLogOf session.log session.file
 abbrev pub IsFileOf : Option Appender → ℕ → HostState → List Frame → Type 0
 IsFileOf None number state frames = (frames ≡ []) × AllLeft state (λ image. file_in image (log_name number) ≡ None)
 IsFileOf (Some log) number state frames = StandsFor log state frames []
+
+-- the session's file is made, and holds these frames
+abbrev pub IsLogStanding : Option Appender → HostState → List Frame → Type 0
+IsLogStanding None state frames = ⊥
+IsLogStanding (Some log) state frames = StandsFor log state frames []
+
+-- the session's file is made, and has room for a frame whose record has so many bytes
+abbrev pub HasRoom : Option Appender → ℕ → Type 0
+HasRoom None size = ⊥
+HasRoom (Some log) size = size_of log + size + 10 < 2 ^ 32
+
+-- a record that puts an entry
+abbrev pub IsPut : OwnItem → Type 0
+IsPut (own.Put seq until key value) = Unit {0}
+IsPut (own.Removal seq key) = ⊥
+IsPut (own.End moment) = ⊥
+
+-- the entries with the one that a record puts
+abbrev pub with_put : PlainMap → OwnItem → PlainMap
+with_put entries (own.Put seq until key value) = insert entries key (record { value = value; until = until })
+with_put entries (own.Removal seq key) = entries
+with_put entries (own.End moment) = entries
 
 -- each record that counts in an image has a sequence number below this one
 abbrev pub IsAboveRecords : ℕ → Image → Type 0

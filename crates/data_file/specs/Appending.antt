@@ -1,5 +1,7 @@
 -- What an appender stands for: the frames that are sealed in its file, and the records written behind them.
 use Rattle.std.specs.Prelude.{◌≡◌, ◌⊎◌, ℕ, ◌+◌, Bool, true, false, List, [], ◌∷◌, ◌++◌, length, take, flat_map, All, Some, if◌then◌else◌}
+use Rattle.cache_model.specs.declared.faults.StoreFault.{StoreFault}
+use Rattle.cache_model.specs.declared.faults.StoreFault.TheVariants.{Failed, Memory, Spent, Damaged}
 use Rattle.cache_model.specs.declared.files.FileName.{FileName}
 use Rattle.cache_model.specs.Files.{file_in}
 use Rattle.cache_model.specs.Items.{Item, end, IsRecord, spelling}
@@ -89,3 +91,10 @@ sealed frames items moment = frames ++ (record { records = items; moment = momen
 -- the file counts the frames, with the one in the making or without
 abbrev pub CountsOneOf : List Frame → List Frame → List ℕ → Type 0
 CountsOneOf before after bytes = CountsFrames before bytes ⊎ CountsFrames after bytes
+
+-- a fault of the host, and no other one
+abbrev pub IsHostly : StoreFault → Type 0
+IsHostly Failed = Unit {0}
+IsHostly Memory = Unit {0}
+IsHostly (Spent s) = ⊥
+IsHostly (Damaged d) = ⊥

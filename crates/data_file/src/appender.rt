@@ -1,12 +1,12 @@
 // Writes one data file, frame by frame.
-ghost use Rattle.std.specs.Prelude.{◌≡◌, ◌+◌, ◌-◌, ◌^◌, ◌<◌, ◌≤◌, List, [], ◌∷◌, ◌++◌, length, false, true, IsTrue, IsSome, None, IfOk, OnOk, IsErrOf};
+ghost use Rattle.std.specs.Prelude.{◌≡◌, ◌+◌, ◌-◌, ◌^◌, ◌<◌, ◌≤◌, List, [], ◌∷◌, ◌++◌, length, false, true, IsTrue, IsSome, None, IfOk, IfErr, OnOk, IsErrOf};
 ghost use Rattle.cache_model.specs.declared.faults.StoreFault.TheVariants.{Failed, Memory};
 ghost use Rattle.cache_model.specs.Files.{IsFileName, file_in, bytes_in};
 ghost use Rattle.cache_model.specs.Items.{Item, IsRecord, spelling};
 ghost use Rattle.cache_model.specs.DataFiles.{Frame, CountsFrames};
 ghost use Rattle.cache_disk.specs.State.{SameBut, Silent, Moves, Stands};
 ghost use Rattle.cache_disk.specs.Calls.{Wrote, DiskCause, HasStoreCause, OnFile, AllLeft};
-ghost use Rattle.data_file.specs.Appending.{name_of, size_of, is_spoilt, due_bytes, ending, IsRecordSpelling, next_place, StandsFor, IsStanding, IsSettled, sealed, CountsOneOf};
+ghost use Rattle.data_file.specs.Appending.{name_of, size_of, is_spoilt, due_bytes, ending, IsRecordSpelling, next_place, StandsFor, IsStanding, IsSettled, sealed, CountsOneOf, IsHostly};
 
 use byteorder::{BigEndian, ByteOrder};
 use cache_disk::{Host, HostFault};
@@ -53,6 +53,7 @@ impl Appender {
         ensures stands { IsTrue H.tells → IfOk result (λ made. StandsFor made (H.state host.new) [] []) }
         ensures settled { IsTrue H.tells → OnOk result (IsSettled name (H.state host.new)) }
         ensures images { IsTrue H.tells → Moves (H.state host.old) (H.state host.new) (OnFile name (CountsFrames [])) }
+        ensures faults { IfErr result IsHostly }
         ensures others { IsTrue H.tells → SameBut name (H.state host.old).files (H.state host.new).files }
         ensures silent { IsTrue H.tells → Silent (H.state host.old) (H.state host.new) }
         ensures cause { HasStoreCause (H.state host.old) (H.state host.new) result }
@@ -100,6 +101,7 @@ impl Appender {
         ensures images { IsTrue H.tells → (frames : List Frame) (records : List Item)
             → StandsFor self.old (H.state host.old) frames records
             → Moves (H.state host.old) (H.state host.new) (OnFile (name_of self.old) (CountsFrames frames)) }
+        ensures faults { IfErr result IsHostly }
         ensures others { IsTrue H.tells → SameBut (name_of self.old) (H.state host.old).files (H.state host.new).files }
         ensures silent { IsTrue H.tells → Silent (H.state host.old) (H.state host.new) }
         ensures cause { HasStoreCause (H.state host.old) (H.state host.new) result }
@@ -143,6 +145,7 @@ impl Appender {
             → StandsFor self.old (H.state host.old) frames records
             → Moves (H.state host.old) (H.state host.new)
             (OnFile (name_of self.old) (CountsOneOf frames (sealed frames records moment))) }
+        ensures faults { IfErr result IsHostly }
         ensures others { IsTrue H.tells → SameBut (name_of self.old) (H.state host.old).files (H.state host.new).files }
         ensures silent { IsTrue H.tells → Silent (H.state host.old) (H.state host.new) }
         ensures cause { HasStoreCause (H.state host.old) (H.state host.new) result }
