@@ -39,7 +39,8 @@ fn listed<R: Files + AllocGlobal + Clone + Drop>(
 {
     let mut names = Vec::new(rt.alloc());
     for entry in fs::read_dir(rt, directory)? {
-        if let Some(name) = file_name_of(entry?.file_name()) {
+        let found = file_name_of(rt.alloc(), entry?.file_name())?;
+        if let Some(name) = found {
             names.push(name)?;
         }
     }
