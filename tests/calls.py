@@ -23,8 +23,9 @@ STRING = re.compile(r'"((?:\\x[0-9a-f]{2})*)"')
 def calls_of(folder, script):
     """Runs the program on a script, and gives its calls on files of the folder and on its output, as short texts."""
     trace = folder.parent / f"{folder.name}.trace"
-    # Each open file is shown with its path, and each text in hexadecimal.
-    command = ["strace", "-f", "-qq", "-y", "-xx", "-s", "200000", "-o", trace, "-e", f"trace={TRACED}"]
+    # Each open file is shown with its path, and each text in hexadecimal. The launcher becomes the program, so that what
+    # the launcher starts besides isn't traced.
+    command = ["strace", "-qq", "-y", "-xx", "-s", "200000", "-o", trace, "-e", f"trace={TRACED}"]
     try:
         ran = subprocess.run(
             [*command, support.PROGRAM, folder, "--at", "1000"],

@@ -1,7 +1,7 @@
 // One directory of the operating system, and the standard output.
-ghost use Rattle.std.specs.Prelude.{◌≡◌, ◌≤◌, ℕ, List, [], All, length, IfOk, Some};
+ghost use Rattle.std.specs.Prelude.{◌≡◌, ◌↔◌, ◌≤◌, [], All, length, IsOk, IfOk, IfErr};
+ghost use Rattle.std.specs.IoError.{error_kind};
 ghost use Rattle.cache_model.specs.Files.{IsFileName};
-ghost use Rattle.cache_disk.specs.State.{HostState};
 ghost use Rattle.cache_disk.specs.Calls.{HasCause};
 
 use crate::file_names::file_name_of;
@@ -18,7 +18,9 @@ use std::{fs, io};
 const MOST_OFFSET: u64 = (1 << 63) - 1;
 
 // What a failure means that left everything as it was.
-fn fault_of(error: &io::Error) -> HostFault {
+fn fault_of(error: &io::Error) -> HostFault
+    ensures { (result ≡ HostFault.Memory) ↔ (error_kind error.now ≡ ErrorKind.OutOfMemory) }
+{
     match error.kind() {
         ErrorKind::OutOfMemory => HostFault::Memory,
         _ => HostFault::Failed,
@@ -26,7 +28,10 @@ fn fault_of(error: &io::Error) -> HostFault {
 }
 
 // What became of a call that may have changed something, whatever it answered.
-fn done(outcome: io::Result<()>) -> Result<(), HostFault> {
+fn done(outcome: io::Result<()>) -> Result<(), HostFault>
+    ensures ok { IsOk result ↔ IsOk outcome }
+    ensures failed { IfErr result (λ fault. fault ≡ HostFault.Failed) }
+{
     outcome.map_err(|_| HostFault::Failed)
 }
 
@@ -39,7 +44,8 @@ fn listed<R: Files + AllocGlobal + Clone + Drop>(
 {
     let mut names = Vec::new(rt.alloc());
     for entry in fs::read_dir(rt, directory)? {
-        if let Some(name) = file_name_of(entry?.file_name()) {
+        let found = file_name_of(rt.alloc(), entry?.file_name())?;
+        if let Some(name) = found {
             names.push(name)?;
         }
     }
@@ -99,7 +105,6 @@ impl<R> FolderHost<R> {
 }
 
 impl<R: Files<File = File> + AllocGlobal + Print + Clone + Drop> Host for FolderHost<R> {
-    ghost use Rattle.cache_disk.specs.State.{HostState};
     ghost use Rattle.std.specs.Prelude.{false, None};
 
     ghost tells = { false };

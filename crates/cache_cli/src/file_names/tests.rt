@@ -22,7 +22,7 @@ fn prints_and_reads_each_kind(rt: HostRuntime) -> Result<(), Fail> {
     ];
     for (text, name) in table {
         assert_eq!(rt; file_name_text(rt.alloc(), name)?.as_str(), text);
-        assert_eq!(rt; file_name_of(text), Some(name), "at {text}");
+        assert_eq!(rt; file_name_of(rt.alloc(), text)?, Some(name), "at {text}");
     }
     for text in [
         "",
@@ -31,10 +31,15 @@ fn prints_and_reads_each_kind(rt: HostRuntime) -> Result<(), Fail> {
         "base.dat",
         "s256.tree",
         "s+1.tree",
+        "s01.tree",
+        "s00-0000000001.log",
+        "s0-1.log",
+        "s0-00000000001.log",
+        "base00.dat",
         "s0-.log",
         "s0-0000000000.log",
     ] {
-        assert_eq!(rt; file_name_of(text), None, "at {text}");
+        assert_eq!(rt; file_name_of(rt.alloc(), text)?, None, "at {text}");
     }
     Ok(())
 }

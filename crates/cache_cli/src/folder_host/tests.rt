@@ -114,6 +114,30 @@ fn counts_faults(rt: &impl Abort, host: &mut Folder) {
     assert_eq!(rt; (host.disk_faults, host.say_faults), (5, 0));
 }
 
+// More files than are kept open, each with its own byte.
+fn opens_many(rt: &impl Abort, host: &mut Folder) {
+    for id in 101..=255u8 {
+        let name = FileName {
+            kind: FileKind::Log,
+            store: 2,
+            id: u32::from(id),
+        };
+        assert_eq!(rt; host.create(name), Ok(()));
+        assert_eq!(rt; host.write(name, 0, &[id]), Ok(()));
+    }
+    for id in 101..=255u8 {
+        let name = FileName {
+            kind: FileKind::Log,
+            store: 2,
+            id: u32::from(id),
+        };
+        let mut buf = [0u8];
+        assert_eq!(rt; host.read(name, 0, &mut buf), Ok(1));
+        assert_eq!(rt; buf, [id]);
+    }
+    assert_eq!(rt; host.names().map(|names| names.len()), Ok(156));
+}
+
 #[test]
 fn does_what_the_disk_does(rt: HostRuntime) -> Result<(), Fail> {
     let folder = fresh_folder(&rt)?;
@@ -125,6 +149,7 @@ fn does_what_the_disk_does(rt: HostRuntime) -> Result<(), Fail> {
     reads(&rt, &mut host);
     reads(&rt, &mut other);
     counts_faults(&rt, &mut host);
+    opens_many(&rt, &mut host);
     fs::remove_dir_all(&rt, folder.as_path())?;
     // Now the directory isn't there.
     assert_eq!(rt; other.names().err(), Some(HostFault::Failed));
