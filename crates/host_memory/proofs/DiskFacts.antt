@@ -130,7 +130,7 @@ stays_away files (turn ∷ turns) name from to keeps (next, step, leads) none =
     stays_away (after turn.call files) turns name next to keeps.1 leads (subst F none (follows files turn.call name from next keeps.0 step))
 
 -- bytes that nothing writes stay
-stays_read : (files : Image) (turns : List Turn) (name : FileName) (from to : Image) → KeepsName name turns → KeepsBytes name turns → Leads files turns from to → file_in to name ≡ file_in from name
+pub stays_read : (files : Image) (turns : List Turn) (name : FileName) (from to : Image) → KeepsName name turns → KeepsBytes name turns → Leads files turns from to → file_in to name ≡ file_in from name
 stays_read files [] name from to keeps unwritten is = ap (λ image. file_in image name) is
 stays_read files (turn ∷ turns) name from to keeps unwritten (next, step, leads) =
     stays_read (after turn.call files) turns name next to keeps.1 unwritten.1 leads ∙ leaves files turn.call name from next keeps.0 unwritten.0 step

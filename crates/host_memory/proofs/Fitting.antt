@@ -23,7 +23,7 @@ pub record Fit (files image : Image) (names_later : Bool) (bytes_later : FileNam
   pub bytes : (name : FileName) → bytes_later name ≡ true → (file_in image name ≡ None) ⊎ (file_in image name ≡ file_in files name)
 
 -- either way
-by_name : {P : Type 0} (same : Bool) → (same ≡ true → P) → (same ≡ false → P) → P
+pub by_name : {P : Type 0} (same : Bool) → (same ≡ true → P) → (same ≡ false → P) → P
 by_name true same differs = same refl
 by_name false same differs = differs refl
 
@@ -214,7 +214,7 @@ pub record IsBuilt (files : Image) (turns more : List Turn) (image : Image) : Ty
 pub built_first : (files : Image) (turns : List Turn) → IsBuilt files [] turns files
 built_first files turns = record { leads = refl; fit = record { names = λ later name. refl; bytes = λ name later. inr refl } }
 
-leads_more : (files : Image) (turns : List Turn) (turn : Turn) (from between to : Image) → Leads files turns from between → Steps (replayed files turns) turn.call between to → Leads files (turns ++ turn ∷ []) from to
+pub leads_more : (files : Image) (turns : List Turn) (turn : Turn) (from between to : Image) → Leads files turns from between → Steps (replayed files turns) turn.call between to → Leads files (turns ++ turn ∷ []) from to
 leads_more files [] turn from between to is step = let P : Image → Type 0 = λ image. Steps files turn.call image to in (to, subst P is step, refl)
 leads_more files (first ∷ turns) turn from between to (next, taken, leads) step = (next, taken, leads_more (after first.call files) turns turn next between to leads step)
 

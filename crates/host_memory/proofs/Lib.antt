@@ -1,6 +1,7 @@
 pub mod Apart
 pub mod Building
 pub mod Calls
+pub mod Chances
 pub mod DiskFacts
 pub mod Fitting
 pub mod Looks

@@ -5,8 +5,9 @@ use Rattle.cache_model.specs.Files.{Image, file_in, is_name}
 use Rattle.host_memory.specs.declared.turns.Call.{Call}
 use Rattle.host_memory.specs.declared.turns.Call.TheVariants.{Create, Write, Sync, Delete, SyncNames, Say}
 use Rattle.host_memory.specs.declared.turns.Turn.{Turn}
+use Rattle.host_memory.specs.Crashes.{names_settle, settles}
 use Rattle.host_memory.specs.History.{History, memory_state}
-use Rattle.host_memory.specs.Turns.{replayed, MayBeLeft}
+use Rattle.host_memory.specs.Turns.{Steps, replayed, MayBeLeft}
 
 -- whether the call makes or deletes the file
 abbrev pub renames : FileName → Call → Bool
@@ -100,3 +101,22 @@ SyncedNamesRead = (files : Image) (before since : List Turn) (asked : ℕ) (name
     → KeepsName name since
     → MayBeLeft files (before ++ record { call = SyncNames true; asked = asked } ∷ since) image
     → (IsSome (file_in image name) ↔ IsSome (file_in (replayed files (before ++ record { call = SyncNames true; asked = asked } ∷ since)) name))
+
+-- Whatever a turn may do to an image that may be left before it may be left after it: a write may be torn in any way,
+-- and a name may be there or not.
+abbrev pub StepsAreLeft : Type 0
+StepsAreLeft = (files : Image) (turns : List Turn) (turn : Turn) (old new : Image)
+    → MayBeLeft files turns old → Steps (replayed files turns) turn.call old new → MayBeLeft files (turns ++ turn ∷ []) new
+
+-- A name that was made, and that no sync of the names settled since, may be missing.
+abbrev pub MadeNamesMayBeMissing : Type 0
+MadeNamesMayBeMissing = (files : Image) (before since : List Turn) (asked : ℕ) (name : FileName)
+    → KeepsName name since → names_settle since ≡ false
+    → (image : Image) × MayBeLeft files (before ++ record { call = Create name; asked = asked } ∷ since) image × (file_in image name ≡ None)
+
+-- A name that was deleted, and that no sync of the names settled since, may be there, with its bytes.
+abbrev pub DeletedNamesMayBeThere : Type 0
+DeletedNamesMayBeThere = (files : Image) (before since : List Turn) (asked : ℕ) (name : FileName) (bytes : List ℕ)
+    → file_in (replayed files before) name ≡ Some bytes → KeepsName name since → KeepsBytes name since
+    → names_settle since ≡ false → settles name since ≡ false
+    → (image : Image) × MayBeLeft files (before ++ record { call = Delete name; asked = asked } ∷ since) image × (file_in image name ≡ Some bytes)

@@ -1,5 +1,5 @@
 // What the disk model comes to, as laws: each function's contract is a fact, and its body is empty.
-ghost use Rattle.host_memory.specs.Facts.{ReadsAreLeft, SyncedBytesStay, SyncedFileReads, SyncedNamesRead};
+ghost use Rattle.host_memory.specs.Facts.{ReadsAreLeft, SyncedBytesStay, SyncedFileReads, SyncedNamesRead, StepsAreLeft, MadeNamesMayBeMissing, DeletedNamesMayBeThere};
 
 /// The files as they read are one of the images that a crash may leave at the present turn.
 pub fn reads_are_left()
@@ -19,4 +19,19 @@ pub fn synced_file_reads()
 /// A name that wasn't made or deleted since the last sync of the names that succeeded is there as it reads.
 pub fn synced_names_read()
     ensures { SyncedNamesRead }
+{}
+
+/// Whatever a turn may do to an image that may be left before it may be left after it.
+pub fn steps_are_left()
+    ensures { StepsAreLeft }
+{}
+
+/// A name that was made may be missing, until a sync of the names succeeds.
+pub fn made_names_may_be_missing()
+    ensures { MadeNamesMayBeMissing }
+{}
+
+/// A name that was deleted may be there with its bytes, until a sync of the names succeeds.
+pub fn deleted_names_may_be_there()
+    ensures { DeletedNamesMayBeThere }
 {}

@@ -12,7 +12,10 @@ mod source;
 mod turns;
 
 pub use disk_file::DiskFile;
-pub use facts::{reads_are_left, synced_bytes_stay, synced_file_reads, synced_names_read};
+pub use facts::{
+    deleted_names_may_be_there, made_names_may_be_missing, reads_are_left, steps_are_left,
+    synced_bytes_stay, synced_file_reads, synced_names_read,
+};
 pub use host::MemoryHost;
 pub use source::MemorySource;
 pub use turns::{Call, Turn};
