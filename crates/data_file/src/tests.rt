@@ -90,28 +90,23 @@ fn an_empty_frame_is_written(rt: HostRuntime) -> Result<(), Fail> {
     Ok(())
 }
 
-// What is given of a file that was written, item by item: where each begins, and whether it ends a frame.
-fn given_back<H: Host>(alloc: Global, host: &mut H) -> Result<[Option<(u32, bool)>; 5], StoreFault>
+// The first five that are given of a file with these bytes: where each begins, and whether it ends a frame.
+fn five_given<H: Host>(
+    alloc: Global,
+    host: &mut H,
+    bytes: &[u8],
+) -> Result<[Option<(u32, bool)>; 5], StoreFault>
     requires { IsTrue H.tells → AllLeft (H.state host.old) (λ image. file_in image NAME ≡ None) }
 {
-    let mut appender = Appender::make(host, NAME)?;
-    appender.append(host, &REMOVAL)?;
-    appender.seal(host, 5)?;
-    appender.append(host, &PUT)?;
-    appender.seal(host, 6)?;
-    let mut scan = Scan::new(alloc, NAME, appender.size())?;
-    let first = scan.next(host)?;
-    let second = scan.next(host)?;
-    let third = scan.next(host)?;
-    let fourth = scan.next(host)?;
-    let fifth = scan.next(host)?;
-    Ok([
-        seen(first),
-        seen(second),
-        seen(third),
-        seen(fourth),
-        seen(fifth),
-    ])
+    host.create(NAME)?;
+    host.write(NAME, 0, bytes)?;
+    let mut scan = Scan::new(alloc, NAME, bytes.len() as u64)?;
+    let first = seen(scan.next(host)?);
+    let second = seen(scan.next(host)?);
+    let third = seen(scan.next(host)?);
+    let fourth = seen(scan.next(host)?);
+    let fifth = seen(scan.next(host)?);
+    Ok([first, second, third, fourth, fifth])
 }
 
 fn seen(found: Option<Scanned>) -> Option<(u32, bool)> {
@@ -146,7 +141,7 @@ fn items_are_given_back(rt: HostRuntime) -> Result<(), Fail> {
             Vec::new(alloc),
             short,
         )?;
-        let given = given_back(alloc, &mut host)?;
+        let given = five_given(alloc, &mut host, &TWO_FRAMES)?;
         assert_eq!(rt;
             given,
             [
