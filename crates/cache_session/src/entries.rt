@@ -120,3 +120,6 @@ impl Entries {
         put_entry(&mut self.list, key, entry);
     }
 }
+
+#[cfg(test)]
+mod tests;
