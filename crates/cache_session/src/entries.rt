@@ -125,3 +125,6 @@ impl Entries {
         put_entry(&mut self.list, key, entry);
     }
 }
+
+#[cfg(test)]
+mod tests;
