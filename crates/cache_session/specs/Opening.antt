@@ -1,9 +1,10 @@
 -- What the opening of a directory keeps while it reads the data files.
-use Rattle.std.specs.Prelude.{◌≡◌, ◌⊎◌, ℕ, suc, ◌+◌, ◌<◌, ◌≤◌, ◌==◌, Bool, List, [], ◌∷◌, map, false, true, length, flat_map, Option, Some, None, if◌then◌else◌, nat_lt, slice_index, Contains, IsSome}
+use Rattle.std.specs.Prelude.{◌≡◌, ◌⊎◌, ℕ, suc, ◌+◌, ◌<◌, ◌≤◌, ◌==◌, Bool, List, [], ◌∷◌, map, false, true, length, flat_map, take, Option, Some, None, if◌then◌else◌, nat_lt, slice_index, Contains, IsSome}
 use Rattle.std.specs.List.{IsDistinct, list_any}
 use Rattle.std.specs.Map.{lookup, keys_of}
 use Rattle.std.specs.Str.{bytes_eq}
 use Rattle.cache_model.specs.declared.entries.Entry.{Entry}
+use Rattle.cache_model.specs.declared.faults.BadKind.{BadKind}
 use Rattle.cache_model.specs.declared.faults.Damage.{Damage}
 use Rattle.cache_model.specs.declared.files.FileKind.{FileKind}
 use Rattle.cache_model.specs.declared.files.FileKind.TheVariants.{Rules, Log, Tree, Base}
@@ -122,9 +123,14 @@ counted_of files numbers = flat_map (λ n. counted_in n (counted_items (bytes_in
 abbrev pub AreUndamaged : Image → List ℕ → Type 0
 AreUndamaged files numbers = (n : ℕ) → Contains numbers n → IsUndamaged (bytes_in files (log_name n))
 
--- What is named is the first damage of the data file with this number.
-pub record IsDamageOf (files : Image) (number : ℕ) (damage : Damage) : Type 0 where
+-- A fault names the first damage that was found of the data file with this number.
+pub record NamesDamageOf (number : ℕ) (found : Option (ℕ × BadKind)) (damage : Damage) : Type 0 where
   pub file : damage.file ≡ log_name number
-  pub bytes : List ℕ
-  pub there : file_in files (log_name number) ≡ Some bytes
-  pub damage_is : first_damage bytes ≡ Some (damage.at, damage.kind)
+  pub is : found ≡ Some (damage.at, damage.kind)
+
+-- A fault names the first damage of one of these data files, and those before it are undamaged.
+pub record IsDamageAmong (files : Image) (numbers : List ℕ) (damage : Damage) : Type 0 where
+  pub index : ℕ
+  pub within : index < length numbers
+  pub names : NamesDamageOf (slice_index numbers index) (first_damage (bytes_in files (log_name (slice_index numbers index)))) damage
+  pub before : AreUndamaged files (take index numbers)
