@@ -1,10 +1,12 @@
 -- What is found in a file of whole frames: just their items, whatever stands behind the first closed gate.
-use Rattle.std.proofs.Common.{◌≡◌, ℕ, zero, suc, ◌+◌, ◌^◌, ◌<◌, ◌≢◌, ◌==◌, false, List, [], ◌∷◌, ◌++◌, length, drop, refl, sym, ap, ◌∙◌, arith, length-append, append-nil, append_assoc, subst, if◌then◌else◌}
+use Rattle.std.proofs.Common.{◌≡◌, ℕ, zero, suc, ◌+◌, ◌^◌, ◌<◌, ◌≤◌, ◌≢◌, ◌==◌, false, List, [], ◌∷◌, ◌++◌, length, drop, refl, sym, ap, ◌∙◌, arith, length-append, append-nil, append_assoc, subst, if◌then◌else◌}
+use Rattle.std.proofs.lemmas.Bool.{le-leb}
 use Rattle.std.proofs.lemmas.Bool.Decides.{nat_tests}
 use Rattle.std.proofs.lemmas.List.{drop_at, length-drop}
 use Rattle.std.proofs.lemmas.List.Elements.{All-head, All-tail}
 use Rattle.std.specs.Prelude.{nat_le, flat_map, All, None}
-use Rattle.cache_model.specs.declared.faults.BadKind.TheVariants.{Place}
+use Rattle.cache_model.specs.declared.faults.BadKind.TheVariants.{Cut, Place}
+use Rattle.cache_model.specs.declared.faults.BadKind.{BadKind}
 use Rattle.cache_model.specs.Items.{Item, put, removal, end, IsItem, IsRecord, spelling, Front, whole, cut, bad, front}
 use Rattle.cache_model.specs.DataFiles.{Frame, items_of, frame_spelling, IsFrameAt, AreFramesAt, AreFrames, frames_spelling, file_spelling, Found, nothing, damaged, and_then, found_at_gate, found_behind, found_at_item, found_within, found_at_version, found_in, placed_items, placed_frames, CountsFrames}
 use Rattle.cache_model.proofs.Standing.{front-stands, standing-some, standing-within}
@@ -266,3 +268,31 @@ counts-opened frames frame gate rest are is closed =
     subst (CountsFrames (frames ++ frame ∷ []))
     (ap (λ bytes. bytes ++ (gate ∷ rest)) (open-more frames frame) ∙ append_assoc (open_spelling frames) ((1 ∷ lead_of frames) ++ frame_spelling frame) (gate ∷ rest))
     (counts-closed (frames ++ frame ∷ []) gate rest (are-more frames frame are is) closed)
+
+-- what is found from an offset on, by what stands there
+
+found_from-at : (at : ℕ) (bytes : List ℕ) (found : Front) → at < 2 ^ 32 → front bytes ≡ found
+    → found_from at bytes ≡ found_at_item (λ next more. found_from next more) at bytes found
+found_from-at at bytes found below is =
+    let one : ℕ → List ℕ → Found = λ next more. found_within (length bytes) next more in
+    let first : found_from at bytes ≡ (if nat_le (2 ^ 32) at then damaged at Place else found_at_item one at bytes (front bytes)) =
+    found_within-more (length bytes + 1) (suc (length bytes)) at bytes (omega arith) (omega arith) in
+    first
+    ∙ ap (λ b. if b then damaged at Place else found_at_item one at bytes (front bytes)) (below-test _ _ below)
+    ∙ agree-item one (λ next more. found_from next more) at bytes (front bytes) refl (λ next more fewer. found_within-from (length bytes) next more fewer)
+    ∙ ap (found_at_item (λ next more. found_from next more) at bytes) is
+
+pub found_from-whole : (at : ℕ) (bytes : List ℕ) (item : Item) (size : ℕ) → at < 2 ^ 32 → front bytes ≡ whole item size
+    → found_from at bytes ≡ and_then (at, item) (found_behind (λ next more. found_from next more) item (at + size) (drop size bytes))
+found_from-whole at bytes item size below is = found_from-at at bytes (whole item size) below is
+
+pub found_from-cut : (at : ℕ) (bytes : List ℕ) → at < 2 ^ 32 → front bytes ≡ cut → found_from at bytes ≡ damaged at Cut
+found_from-cut at bytes below is = found_from-at at bytes cut below is
+
+pub found_from-bad : (at : ℕ) (bytes : List ℕ) (kind : BadKind) → at < 2 ^ 32 → front bytes ≡ bad kind → found_from at bytes ≡ damaged at kind
+found_from-bad at bytes kind below is = found_from-at at bytes (bad kind) below is
+
+pub found_from-place : (at : ℕ) (bytes : List ℕ) → 2 ^ 32 ≤ at → found_from at bytes ≡ damaged at Place
+found_from-place at bytes above =
+    found_within-more (length bytes + 1) (suc (length bytes)) at bytes (omega arith) (omega arith)
+    ∙ ap (λ b. if b then damaged at Place else found_at_item (λ next rest. found_within (length bytes) next rest) at bytes (front bytes)) (le-leb (2 ^ 32) at above)

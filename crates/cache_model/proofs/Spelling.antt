@@ -7,9 +7,9 @@ use Rattle.std.proofs.Math.Seq.{take-add}
 use Rattle.std.specs.Prelude.{nat_le, if◌then◌else◌}
 use Rattle.std.specs.Int.{from_be_bytes, to_be_bytes, w16, w32, w64}
 use Rattle.cache_model.specs.declared.entries.Until.TheVariants.{Never, At}
-use Rattle.cache_model.specs.Items.{Item, IsItem, IsUntil, until_number, until_of_number, spelling, whole, front}
+use Rattle.cache_model.specs.Items.{Item, put, removal, end, IsItem, IsUntil, until_number, until_of_number, spelling, whole, front}
 use Rattle.cache_model.proofs.Standing.{Standing, as_end, as_put, as_removal, EndStands, PutStands, RemovalStands, front-stands}
-use Rattle.cache_model.proofs.Spelled.{front-spelling}
+use Rattle.cache_model.proofs.Spelled.{length-spelling, front-spelling}
 
 -- each of these numbers is a byte
 abbrev pub AreBytes : List ℕ → Type 0
@@ -181,3 +181,28 @@ spelling-prefix one other rest is_one is_other begins =
     let same : spelling other ++ [] ≡ spelling one ++ rest = append-nil (spelling other) ∙ begins in
     let both : whole one (length (spelling one)) ≡ whole other (length (spelling other)) = sym first ∙ ap front (sym same) ∙ second in
     cc
+
+-- how many bytes the item takes is how long its spelling is
+standing-size : (bytes : List ℕ) (item : Item) (size : ℕ) → Standing bytes item size → size ≡ length (spelling item)
+standing-size bytes item size (as_end tag s) = s.size_is ∙ sym (length-spelling (end (from_be_bytes w64 (drop 1 bytes)))) ∙ ap (λ i. length (spelling i)) (sym s.is)
+standing-size bytes item size (as_put tag s) =
+    let key_length : ℕ = from_be_bytes w16 (drop 17 bytes) in
+    let value_length : ℕ = from_be_bytes w32 (drop 19 bytes) in
+    let key = length-take-le key_length (drop 23 bytes) (omega (arith, length-drop 23 bytes)) in
+    let value = length-take-le value_length (drop (23 + key_length) bytes) (omega (arith, length-drop (23 + key_length) bytes)) in
+    let long = ap (λ i. length (spelling i)) s.is ∙ length-spelling (put (from_be_bytes w64 (drop 1 bytes)) (until_of_number (from_be_bytes w64 (drop 9 bytes))) (take key_length (drop 23 bytes)) (take value_length (drop (23 + key_length) bytes))) in
+    s.size_is ∙ ap (λ n. 23 + n + value_length) (sym key) ∙ ap (λ n. 23 + length (take key_length (drop 23 bytes)) + n) (sym value) ∙ sym long
+standing-size bytes item size (as_removal tag s) =
+    let key_length : ℕ = from_be_bytes w16 (drop 9 bytes) in
+    let key = length-take-le key_length (drop 11 bytes) (omega (arith, length-drop 11 bytes)) in
+    let long = ap (λ i. length (spelling i)) s.is ∙ length-spelling (removal (from_be_bytes w64 (drop 1 bytes)) (take key_length (drop 11 bytes))) in
+    s.size_is ∙ ap (λ n. 11 + n) (sym key) ∙ sym long
+
+pub whole-size : (bytes : List ℕ) (item : Item) (size : ℕ) → front bytes ≡ whole item size → size ≡ length (spelling item)
+whole-size bytes item size is = standing-size bytes item size (front-stands bytes item size is)
+
+-- no item has more bytes than the largest put
+pub spelling-most : (item : Item) → IsItem item → length (spelling item) ≤ 66583
+spelling-most (put seq until key value) fits = omega (arith, length-spelling (put seq until key value), fits.2.0, fits.2.1, fits.3)
+spelling-most (removal seq key) fits = omega (arith, length-spelling (removal seq key), fits.1.0, fits.1.1)
+spelling-most (end moment) fits = omega (arith, length-spelling (end moment))

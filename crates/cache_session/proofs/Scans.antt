@@ -1,6 +1,6 @@
 -- Taking the items of a scan, one after another, into the table.
 use Rattle.std.proofs.Common.{◌≡◌, ℕ, ◌+◌, ◌<◌, List, [], ◌∷◌, ◌++◌, map, Option, Some, None, Result, Ok, Err, IsErrOf, OnOk, refl, sym, ap, subst, ◌∙◌, arith, append_assoc}
-use Rattle.std.proofs.lemmas.List.{append_nil}
+use Rattle.std.proofs.lemmas.List.{append-nil, map-append}
 use Rattle.std.specs.Prelude.{unwrap_or}
 use Rattle.cache_model.specs.declared.faults.BadKind.{BadKind}
 use Rattle.cache_model.specs.declared.faults.Damage.{Damage}
@@ -40,7 +40,7 @@ taking-none number file first table scans = record {
   items = refl;
   damage = refl;
   scans = scans;
-  table = λ counted stands. rw (append_nil counted) stands;
+  table = λ counted stands. rw (append-nil counted) stands;
 }
 
 -- what was given, by a scan of the same bytes
@@ -66,7 +66,9 @@ taking-more number file same first now more before mid after one is taking given
     placed p = record { number = number; at = p.0; item = p.1 }
 
     items-more : (done : List (ℕ × Item)) (counted : List Counted) → counted ++ counted_in number (done ++ (one.place.at, own_item one.item) ∷ []) ≡ (counted ++ counted_in number done) ++ counted_one number one ∷ []
-    items-more done counted = ?
+    items-more done counted =
+        ap (λ l. counted ++ l) (map-append placed done ((one.place.at, own_item one.item) ∷ []))
+        ∙ sym (append_assoc counted (counted_in number done) (counted_one number one ∷ []))
 
 -- all were taken
 pub taking-all : (number : ℕ) (file same : List ℕ) (first now more : Scan) (before after : Table)
@@ -76,7 +78,7 @@ pub taking-all : (number : ℕ) (file same : List ℕ) (first now more : Scan) (
     → (counted : List Counted) → StandsForItems before counted → StandsForItems after (counted ++ counted_in number (rest_of first file).items)
 taking-all number file same first now more before after is taking given counted stands =
     let rest : rest_of now file ≡ nothing = subst (λ f. rest_of now f ≡ nothing) is given.given.0 in
-    let items : (rest_of first file).items ≡ taking.done = taking.items ∙ ap (λ (found : Found). taking.done ++ found.items) rest ∙ append_nil taking.done in
+    let items : (rest_of first file).items ≡ taking.done = taking.items ∙ ap (λ (found : Found). taking.done ++ found.items) rest ∙ append-nil taking.done in
     subst (λ l. StandsForItems after (counted ++ counted_in number l)) (sym items) (taking.table counted stands)
 
 -- and the file is undamaged

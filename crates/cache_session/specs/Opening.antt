@@ -1,6 +1,7 @@
 -- What the opening of a directory keeps while it reads the data files.
-use Rattle.std.specs.Prelude.{◌≡◌, ◌⊎◌, ℕ, suc, ◌+◌, ◌<◌, ◌≤◌, ◌==◌, Bool, List, [], ◌∷◌, map, false, true, length, flat_map, take, Option, Some, None, if◌then◌else◌, nat_lt, slice_index, Contains, IsSome}
+use Rattle.std.specs.Prelude.{◌≡◌, ◌⊎◌, ℕ, suc, ◌+◌, ◌<◌, ◌≤◌, ◌==◌, Bool, List, [], ◌∷◌, map, false, true, length, flat_map, take, Option, Some, None, if◌then◌else◌, nat_lt, slice_index, Contains, IsSome, max}
 use Rattle.std.specs.List.{IsDistinct, list_any}
+use Rattle.std.specs.FinMap.{get, insert}
 use Rattle.std.specs.Map.{lookup, keys_of}
 use Rattle.std.specs.Str.{bytes_eq}
 use Rattle.cache_model.specs.declared.entries.Entry.{Entry}
@@ -12,9 +13,11 @@ use Rattle.cache_model.specs.declared.files.FileName.{FileName}
 use Rattle.cache_model.specs.Files.{Image, file_in, bytes_in}
 use Rattle.cache_model.specs.Items.{Item, end}
 use Rattle.cache_model.specs.DataFiles.{counted_items, first_damage, IsUndamaged}
-use Rattle.cache_model.specs.Images.{log_name, key_of, sequence_of, entry_by, IsNoNewer}
+use Rattle.cache_model.specs.Images.{log_name, key_of, sequence_of, entry_by, IsNoNewer, IsFirstDamage}
+use Rattle.cache_model.specs.Plain.{PlainMap}
 use Rattle.cache_session.specs.declared.newest.Newest.{Newest}
 use Rattle.cache_session.specs.declared.newest.Table.{Table}
+use Rattle.cache_session.specs.declared.session.Session.{Session}
 
 -- whether one record is newer than another: by the sequence number, then the file, then the offset
 abbrev pub is_newer : Newest → Newest → Bool
@@ -134,3 +137,25 @@ pub record IsDamageAmong (files : Image) (numbers : List ℕ) (damage : Damage) 
   pub within : index < length numbers
   pub names : NamesDamageOf (slice_index numbers index) (first_damage (bytes_in files (log_name (slice_index numbers index)))) damage
   pub before : AreUndamaged files (take index numbers)
+
+-- the entries with one more
+abbrev pub with_entry : PlainMap → List ℕ → Option Entry → PlainMap
+with_entry entries key None = entries
+with_entry entries key (Some entry) = insert entries key entry
+
+-- the entries with that of a newest record, where it is a put
+abbrev pub with_newest : PlainMap → List ℕ → Newest → PlainMap
+with_newest entries key newest = with_entry entries key newest.entry
+
+-- A session as it is made of a table: nothing is written yet.
+pub record IsMadeOf (table : Table) (given file : ℕ) (session : Session) : Type 0 where
+  pub entries : IsDistinct bytes_eq (keys_of table.records.items) → (key : List ℕ) → get session.entries.entries key ≡ entry_in (lookup (bytes_eq key) table.records.items)
+  pub moment : session.moment ≡ max given table.mark
+  pub next : session.next ≡ table.next
+  pub file_is : session.file ≡ file
+  pub log : session.log ≡ None
+  pub sound : session.spoilt ≡ false
+
+-- a fault names the first damage of the files
+abbrev pub IsFirstDamageOf : Image → Damage → Type 0
+IsFirstDamageOf files damage = (damage.file ≡ log_name damage.file.id) × IsFirstDamage files damage.file.id damage.at damage.kind

@@ -4,6 +4,9 @@
 mod data_files;
 mod entries;
 mod newest;
+mod opening;
+mod reading;
 mod session;
 
+pub use opening::StartFault;
 pub use session::Session;

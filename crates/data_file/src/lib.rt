@@ -2,5 +2,8 @@
 #![tactic(auto)]
 
 mod appender;
+mod scan;
+mod window;
 
 pub use appender::Appender;
+pub use scan::{Scan, Scanned};

@@ -6,7 +6,7 @@ use Rattle.std.proofs.lemmas.List.{drop-drop, drop_all, drop_more, length-drop}
 use Rattle.std.specs.Prelude.{nat_lt, nat_le, ◌||◌, ◌⊎◌, if◌then◌else◌}
 use Rattle.std.specs.Int.{from_be_bytes, w16, w32, w64}
 use Rattle.cache_model.specs.declared.faults.BadKind.TheVariants.{Tag, KeyLength, ValueLength, Until as BadUntil, Moment, Sequence}
-use Rattle.cache_model.specs.Limits.{IsKeyLength}
+use Rattle.cache_model.specs.Limits.{IsKeyLength, IsValueLength}
 use Rattle.cache_model.specs.Items.{put, removal, end, until_of_number, Front, whole, cut, bad, front, front_put, front_removal, front_end}
 use Rattle.cache_model.proofs.Spelled.{below-test}
 use Rattle.cache_model.proofs.Spelling.{whole-item}
@@ -25,6 +25,12 @@ key-bad n b is fails = grind (arith, nat_tests)
 
 key-good : (n : ℕ) (b : Bool) → (IsTrue b ↔ IsKeyLength n) → b ≡ true → (n == 0 || nat_lt 1024 n) ≡ false
 key-good n b is passes = grind (arith, nat_tests)
+
+value-bad : (n : ℕ) (b : Bool) → (IsTrue b ↔ IsValueLength n) → b ≡ false → nat_lt 65536 n ≡ true
+value-bad n b is fails = grind (arith, nat_tests)
+
+value-good : (n : ℕ) (b : Bool) → (IsTrue b ↔ IsValueLength n) → b ≡ true → nat_lt 65536 n ≡ false
+value-good n b is passes = grind (arith, nat_tests)
 
 -- The numbers of a put at an offset, as they were read.
 pub record PutNumbers (bytes : List ℕ) (at seq until key_length value_length : ℕ) : Type 0 where
@@ -98,34 +104,34 @@ put-in_range seq until key_length low b is passes d key good =
     record { seq_low = below-test (2 ^ 62) seq low; until_good = until-good until b is passes; key_good = key-good key_length d key good }
 
 pub put-value : (bytes : List ℕ) (at seq until key_length value_length : ℕ) → PutNumbers bytes at seq until key_length value_length
-    → PutInRange seq until key_length → 65536 < value_length → bad (ValueLength value_length) ≡ front_put (drop at bytes)
-put-value bytes at seq until key_length value_length are good high =
+    → PutInRange seq until key_length → (v : Bool) → (IsTrue v ↔ IsValueLength value_length) → v ≡ false → bad (ValueLength value_length) ≡ front_put (drop at bytes)
+put-value bytes at seq until key_length value_length are good v fits fails =
     let t1 = good.seq_low in
     let t2 = good.until_good in
     let t3 = good.key_good in
-    let t4 = lt-ltb 65536 value_length high in
+    let t4 = value-bad value_length v fits fails in
     rw (front_put-numbers bytes at seq until key_length value_length are, t1, t2, t3, t4)
 
 pub put-cut : (bytes : List ℕ) (at seq until key_length value_length : ℕ) → PutNumbers bytes at seq until key_length value_length
-    → PutInRange seq until key_length → value_length ≤ 65536 → length bytes - at < 23 + key_length + value_length → cut ≡ front_put (drop at bytes)
-put-cut bytes at seq until key_length value_length are good low short =
+    → PutInRange seq until key_length → (v : Bool) → (IsTrue v ↔ IsValueLength value_length) → v ≡ true → length bytes - at < 23 + key_length + value_length → cut ≡ front_put (drop at bytes)
+put-cut bytes at seq until key_length value_length are good v fits passes short =
     let t1 = good.seq_low in
     let t2 = good.until_good in
     let t3 = good.key_good in
-    let t4 = le-ltb 65536 value_length low in
+    let t4 = value-good value_length v fits passes in
     let t5 = lt-ltb (length bytes - at) (23 + key_length + value_length) short in
     rw (front_put-numbers bytes at seq until key_length value_length are, t1, t2, t3, t4, t5)
 
 pub put-whole : (bytes : List ℕ) (at seq until key_length value_length : ℕ) → PutNumbers bytes at seq until key_length value_length
-    → PutInRange seq until key_length → value_length ≤ 65536 → 23 + key_length + value_length ≤ length bytes - at
+    → PutInRange seq until key_length → (v : Bool) → (IsTrue v ↔ IsValueLength value_length) → v ≡ true → 23 + key_length + value_length ≤ length bytes - at
     → whole (put seq (until_of_number until) (take key_length (drop (at + 23) bytes)) (take value_length (drop (at + 23 + key_length) bytes)))
     (at + (23 + key_length + value_length) - at)
     ≡ front_put (drop at bytes)
-put-whole bytes at seq until key_length value_length are good low enough =
+put-whole bytes at seq until key_length value_length are good v fits passes enough =
     let t1 = good.seq_low in
     let t2 = good.until_good in
     let t3 = good.key_good in
-    let t4 = le-ltb 65536 value_length low in
+    let t4 = value-good value_length v fits passes in
     let t5 = le-ltb (length bytes - at) (23 + key_length + value_length) enough in
     let size : at + (23 + key_length + value_length) - at ≡ 23 + key_length + value_length = omega arith in
     rw (front_put-numbers bytes at seq until key_length value_length are, t1, t2, t3, t4, t5, size)

@@ -5,6 +5,8 @@ mod items;
 mod laws;
 mod owning;
 mod reading;
+#[cfg(test)]
+mod tests;
 mod writing;
 
 pub use items::{Item, OwnItem, Span, Step};

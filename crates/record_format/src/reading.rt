@@ -1,7 +1,7 @@
 // Reading an item.
 ghost use Rattle.std.specs.Prelude.{◌≡◌, ◌≤◌, ◌<◌, ◌+◌, ◌-◌, ◌^◌, ◌⊎◌, ◌↔◌, IsTrue, length, drop};
 ghost use Rattle.std.specs.Int.{from_be_bytes, w16, w32, w64};
-ghost use Rattle.cache_model.specs.Limits.{IsKeyLength};
+ghost use Rattle.cache_model.specs.Limits.{IsKeyLength, IsValueLength};
 ghost use Rattle.cache_model.specs.Items.{front, front_put, front_removal, front_end, until_of_number};
 ghost use Rattle.record_format.specs.Meaning.{found_at, IsFoundWithin, IsFoundItem};
 
@@ -64,7 +64,7 @@ fn decode_put(bytes: &[u8], at: usize) -> Step
     if !is_key_length(key_length) {
         return Step::Bad(BadKind::KeyLength(key_length));
     }
-    if value_length as usize > VALUE_LIMIT {
+    if !is_value_length(value_length) {
         return Step::Bad(BadKind::ValueLength(value_length));
     }
     let size = PUT_HEAD + key_length as usize + value_length as usize;
@@ -156,6 +156,12 @@ fn is_key_length(length: u16) -> bool
     ensures { IsTrue result ↔ IsKeyLength length }
 {
     1 <= length && length as usize <= KEY_LIMIT
+}
+
+fn is_value_length(length: u32) -> bool
+    ensures { IsTrue result ↔ IsValueLength length }
+{
+    length as usize <= VALUE_LIMIT
 }
 
 // The number at an offset, its highest byte first.
