@@ -1,11 +1,13 @@
 -- The numbers of the data files among some names.
-use Rattle.std.proofs.Common.{◌≡◌, ℕ, ◌≤◌, ◌==◌, ◌⊎◌, inl, inr, ⊎_elim, Bool, true, false, cond, List, [], ◌∷◌, Option, Some, None, Contains, All, refl, sym, ap, subst, ◌∙◌, arith}
+use Rattle.std.proofs.Common.{◌≡◌, ℕ, ◌≤◌, ◌==◌, ◌⊎◌, inl, inr, ⊎_elim, Bool, true, false, cond, List, [], ◌∷◌, ◌++◌, ◌+◌, ◌<◌, length, take, get_or, Option, Some, None, Contains, All, refl, sym, ap, subst, ◌∙◌, arith}
 use Rattle.std.specs.Prelude.{if◌then◌else◌, ◌↔◌, filter_map}
 use Rattle.std.specs.List.{cons_option}
 use Rattle.std.specs.List.Sorted.{IsPermutation, IsSorted, IsNonDecreasing}
 use Rattle.std.specs.Ordering.{nat_cmp}
 use Rattle.std.proofs.lemmas.Bool.Decides.{nat_tests}
-use Rattle.std.proofs.lemmas.List.Elements.{All-contains}
+use Rattle.std.specs.Option.{option_to_list}
+use Rattle.std.proofs.lemmas.List.{take_more}
+use Rattle.std.proofs.lemmas.List.Elements.{All-contains, filter_map-append}
 use Rattle.std.proofs.lemmas.List.Sorted.{Contains-permutation, IsPermutation-sym, IsNonDecreasingBy-from_sort}
 use Rattle.cache_model.specs.declared.files.FileKind.{FileKind}
 use Rattle.cache_model.specs.declared.files.FileKind.TheVariants.{Rules, Log, Tree, Base}
@@ -26,8 +28,15 @@ named-by Log store id n e = let parts = by-store store id n (store == 0) refl e 
 named-by Tree store id n e = cc
 named-by Base store id n e = cc
 
+abbrev named_so : FileKind → ℕ → ℕ → FileName
+named_so kind store id = record { kind = kind; store = store; id = id }
+
 pub named : (name : FileName) (n : ℕ) → number_in name ≡ Some n → name ≡ log_name n
-named name n e = let parts = named-by name.kind name.store name.id n e in cc
+named name n e =
+    let parts = named-by name.kind name.store name.id n e in
+    ap (λ (k : FileKind). named_so k name.store name.id) parts.0
+    ∙ ap (λ s. named_so Log s name.id) parts.1
+    ∙ ap (λ i. named_so Log 0 i) parts.2
 
 -- the first number, where the first name has one
 listed-in : (name : FileName) (found : Option ℕ) (rest : List ℕ) (names : List FileName) (n : ℕ) → number_in name ≡ found
@@ -58,6 +67,24 @@ named-number (name ∷ names) n among =
     (λ (same : name ≡ log_name n). in-front (number_in name) (filter_map number_in names) n (ap number_in same))
     (λ later. behind-front (number_in name) (filter_map number_in names) n (named-number names n later))
     (among-cases name (log_name n) names among)
+
+one-kept : (found : Option ℕ) → option_to_list found ≡ cons_option found []
+one-kept None = refl
+one-kept (Some n) = refl
+
+-- one name more
+pub listed-more : (names : List FileName) (index : ℕ) (d : FileName) (found : Option ℕ) (before after : List ℕ)
+    → index < length names
+    → before ≡ filter_map number_in (take index names)
+    → found ≡ number_in (get_or names index d)
+    → after ≡ before ++ option_to_list found
+    → after ≡ filter_map number_in (take (index + 1) names)
+listed-more names index d found before after within so_far is kept =
+    kept
+    ∙ ap (λ l. l ++ option_to_list found) so_far
+    ∙ ap (λ l. filter_map number_in (take index names) ++ l) (ap option_to_list is ∙ one-kept (number_in (get_or names index d)))
+    ∙ sym (filter_map-append number_in (take index names) (get_or names index d ∷ []))
+    ∙ sym (ap (λ (l : List FileName). filter_map number_in l) (take_more names index d within))
 
 -- What is known of the sorted numbers.
 pub record AreNumbersOf (names : List FileName) (numbers : List ℕ) : Type 0 where

@@ -1,5 +1,5 @@
 -- From the items that were taken to what the files, and every image, read as.
-use Rattle.std.proofs.Common.{◌≡◌, ℕ, ◌<◌, ◌≤◌, ◌⊎◌, inl, inr, ⊎_elim, max, true, false, List, [], ◌∷◌, ◌++◌, map, length, Option, Some, None, Contains, All, IsSome, take, slice_index, slice_index_or, refl, sym, ap, subst, ◌∙◌, arith}
+use Rattle.std.proofs.Common.{◌≡◌, ℕ, ◌<◌, ◌≤◌, ◌⊎◌, inl, inr, ⊎_elim, max, true, false, List, [], ◌∷◌, ◌++◌, map, length, Result, Ok, Err, IfOk, OnOk, Option, Some, None, Contains, All, IsSome, take, slice_index, slice_index_or, refl, sym, ap, subst, ◌∙◌, arith}
 use Rattle.std.specs.Prelude.{◌↔◌, unwrap_or}
 use Rattle.std.specs.List.{IsDistinct, flat_map}
 use Rattle.std.specs.List.Sorted.{IsNonDecreasing}
@@ -26,7 +26,7 @@ use Rattle.cache_disk.proofs.Runs.{Stands-left}
 use Rattle.cache_session.specs.declared.session.Session.{Session}
 use Rattle.cache_session.specs.Session.{IsAboveRecords, IsFileOf, Opens, SessionStands}
 use Rattle.cache_session.specs.Started.{IsOpened}
-use Rattle.cache_session.specs.Opening.{Counted, counted_in, counted_of, IsNewestIn, IsNewestOf, StandsForItems, entry_in, SameLogs, AreUndamaged, IsMadeOf, IsDamageAmong, IsFirstDamageOf}
+use Rattle.cache_session.specs.Opening.{Counted, counted_in, counted_of, IsNewestIn, IsNewestOf, StandsForItems, entry_in, SameLogs, AreUndamaged, IsMadeOf, IsDamageAmong, IsFirstDamageOf, IsReadFrom}
 use Rattle.cache_session.proofs.Members.{IsImageOf, IsInPartOf, among-map, map-among, among-flat_map, flat_map-among}
 
 -- the numbers of all data files
@@ -253,3 +253,70 @@ first-damage-there files image damage same (named, is) =
       damage = is.damage;
       first = λ n other less there. is.first n other less (sym (same n) ∙ there);
     })
+
+-- what holds of an answer that is Ok
+pub if-ok : {T E : Type 0} (answer : Result T E) (P Q : T → Type 0) → IfOk answer P → ((x : T) → P x → Q x) → IfOk answer Q
+if-ok (Ok x) P Q is goes = goes x is
+if-ok (Err fault) P Q is goes = tt
+
+pub if-ok-on : {T E : Type 0} (answer : Result T E) (P : T → Type 0) (Q : Type 0) → IfOk answer P → ((x : T) → P x → Q) → OnOk answer Q
+if-ok-on (Ok x) P Q is goes = goes x is
+if-ok-on (Err fault) P Q is goes = tt
+
+-- what was read, of a table and a number above all
+pub read-from : (files : Image) (numbers : List ℕ) (table : Table) (given file : ℕ) (session : Session)
+    → StandsForItems table (counted_of files numbers)
+    → AreUndamaged files numbers
+    → All (λ n. n < file) numbers
+    → IsMadeOf table given file session
+    → IsReadFrom files numbers given session
+read-from files numbers table given file session stands undamaged above made = record {
+  table = table;
+  stands = stands;
+  undamaged = undamaged;
+  made = subst (λ n. IsMadeOf table given n session) (sym made.file_is) made;
+  above = subst (λ n. All (λ k. k < n) numbers) (sym made.file_is) above;
+}
+
+-- the session that was read is opened
+pub opened-from : (a b c : HostState) (numbers : List ℕ) (given : ℕ) (session : Session)
+    → AreAllNumbers a.files numbers
+    → SameFiles a.files b.files
+    → AllLeft b (SameLogs a.files)
+    → Stands b c
+    → IsReadFrom b.files numbers given session
+    → IsOpened a c given session
+opened-from a b c numbers given session each same all still read = opened a b c numbers read.table session given session.file each same all still read.stands read.undamaged read.made read.above
+
+logs-back : (a b : Image) → SameFiles a b → SameLogs b a
+logs-back a b same n = sym (same (log_name n))
+
+all-numbers-there : (a b : Image) (numbers : List ℕ) → SameFiles a b → AreAllNumbers a numbers → AreAllNumbers b numbers
+all-numbers-there a b numbers same each n = subst (λ (f : Option (List ℕ)). Contains numbers n ↔ IsSome f) (sym (same (log_name n))) (each n)
+
+-- and the files that it was opened from are sound
+pub sound-from : (a b : Image) (numbers : List ℕ) (given : ℕ) (session : Session) → AreAllNumbers a numbers → SameFiles a b → IsReadFrom b numbers given session → IsSound a
+sound-from a b numbers given session each same read = sound-there b a (logs-back a b same) (is-sound b numbers (all-numbers-there a b numbers same each) read.undamaged)
+
+-- a damage that was found is the first
+pub damage-from : (a b : Image) (numbers : List ℕ) (damage : Damage) → AreAllNumbers a numbers → IsNonDecreasing numbers → SameFiles a b → IsDamageAmong b numbers damage → IsFirstDamageOf a damage
+damage-from a b numbers damage each rising same among =
+    first-damage-there b a damage (logs-back a b same) (first-damage b numbers damage (all-numbers-there a b numbers same each) rising among)
+
+-- what was opened after calls that changed nothing
+pub opened-before : (a b c : HostState) (given : ℕ) (session : Session) → SameFiles a.files b.files → IsOpened b c given session → IsOpened a c given session
+opened-before a b c given session same is =
+    let back = logs-back a.files b.files same in
+    record {
+      plain = is.plain;
+      opens = record {
+        entries = λ key. entry-there b.files a.files key _ back (is.opens.entries key);
+        mark = is.opens.mark;
+        marked = mark-there b.files a.files is.opens.mark back is.opens.marked;
+        moment = is.opens.moment;
+      };
+      stands = is.stands;
+    }
+
+pub damage-before : (a b : Image) (damage : Damage) → SameFiles a b → IsFirstDamageOf b damage → IsFirstDamageOf a damage
+damage-before a b damage same is = first-damage-there b a damage (logs-back a b same) is

@@ -1,5 +1,5 @@
 -- What the opening of a directory keeps while it reads the data files.
-use Rattle.std.specs.Prelude.{◌≡◌, ◌⊎◌, ℕ, suc, ◌+◌, ◌<◌, ◌≤◌, ◌==◌, Bool, List, [], ◌∷◌, map, false, true, length, flat_map, take, Option, Some, None, if◌then◌else◌, nat_lt, slice_index, Contains, IsSome, max}
+use Rattle.std.specs.Prelude.{◌≡◌, ◌⊎◌, ℕ, suc, ◌+◌, ◌<◌, ◌≤◌, ◌==◌, Bool, List, [], ◌∷◌, map, false, true, length, flat_map, take, Option, Some, None, if◌then◌else◌, nat_lt, slice_index, Contains, All, IsSome, max}
 use Rattle.std.specs.List.{IsDistinct, list_any}
 use Rattle.std.specs.FinMap.{get, insert}
 use Rattle.std.specs.Map.{lookup, keys_of}
@@ -159,3 +159,11 @@ pub record IsMadeOf (table : Table) (given file : ℕ) (session : Session) : Typ
 -- a fault names the first damage of the files
 abbrev pub IsFirstDamageOf : Image → Damage → Type 0
 IsFirstDamageOf files damage = (damage.file ≡ log_name damage.file.id) × IsFirstDamage files damage.file.id damage.at damage.kind
+
+-- A session is made of the table of what these data files hold, which are undamaged. Its file's number is above theirs.
+pub record IsReadFrom (files : Image) (numbers : List ℕ) (given : ℕ) (session : Session) : Type 0 where
+  pub table : Table
+  pub stands : StandsForItems table (counted_of files numbers)
+  pub undamaged : AreUndamaged files numbers
+  pub made : IsMadeOf table given session.file session
+  pub above : All (λ n. n < session.file) numbers

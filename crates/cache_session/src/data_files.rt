@@ -1,5 +1,6 @@
 // The data files of a directory, and what settles them.
-ghost use Rattle.std.specs.Prelude.{◌≡◌, ◌↔◌, ℕ, filter_map, ◌+◌, ◌<◌, ◌≤◌, All, Contains, IsTrue, IsSome, IfOk, OnOk, IfErr, IsErrOf};
+ghost use Rattle.std.specs.Option.{option_to_list};
+ghost use Rattle.std.specs.Prelude.{◌≡◌, ◌↔◌, ◌++◌, ℕ, filter_map, ◌+◌, ◌<◌, ◌≤◌, All, Contains, IsTrue, IsSome, IfOk, OnOk, IfErr, IsErrOf};
 ghost use Rattle.std.specs.List.{list_any};
 ghost use Rattle.std.specs.List.Sorted.{IsNonDecreasing};
 ghost use Rattle.cache_model.specs.declared.faults.StoreFault.TheVariants as fault;
@@ -59,6 +60,19 @@ pub(crate) fn log_name(number: u32) -> FileName
     }
 }
 
+// One number more at the end, where there is one.
+fn keep(numbers: &mut Vec<u32>, number: Option<u32>) -> Result<(), StoreFault>
+    ensures kept { OnOk result (numbers.new.items ≡ numbers.old.items ++ option_to_list number) }
+    ensures memory { IfErr result (λ given. given ≡ fault.Memory) }
+{
+    if let Some(number) = number {
+        if numbers.push(number).is_err() {
+            return Err(StoreFault::Memory);
+        }
+    }
+    Ok(())
+}
+
 // The numbers of the data files of the main store among these, in the order of the names.
 fn listed_numbers(alloc: Global, names: &[FileName]) -> Result<Vec<u32>, StoreFault>
     ensures numbers { IfOk result (λ numbers. numbers.items ≡ filter_map number_in names.now) }
@@ -66,9 +80,7 @@ fn listed_numbers(alloc: Global, names: &[FileName]) -> Result<Vec<u32>, StoreFa
 {
     let mut numbers = Vec::new(alloc);
     for name in names {
-        if let Some(number) = number_in(*name) {
-            numbers.push(number).map_err(|_| StoreFault::Memory)?;
-        }
+        keep(&mut numbers, number_in(*name))?;
     }
     Ok(numbers)
 }

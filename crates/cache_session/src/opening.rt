@@ -11,10 +11,10 @@ ghost use Rattle.cache_model.specs.declared.faults.Damage.{Damage};
 ghost use Rattle.cache_model.specs.declared.files.FileName.{FileName};
 ghost use Rattle.cache_model.specs.Files.{IsFileName, file_in};
 ghost use Rattle.cache_model.specs.Images.{IsSound, log_name};
-ghost use Rattle.cache_disk.specs.State.{SameFiles, Silent, Moves};
+ghost use Rattle.cache_disk.specs.State.{SameFiles, Silent, Moves, Stands};
 ghost use Rattle.cache_disk.specs.Calls.{HasStoreCause};
 ghost use Rattle.cache_session.specs.Session.{entries_of, moment_of, next_sequence, file_number, is_session_spoilt, IsUsable};
-ghost use Rattle.cache_session.specs.Opening.{IsNumber, entry_in, with_newest, IsForeign, IsFirstDamageOf, IsMadeOf};
+ghost use Rattle.cache_session.specs.Opening.{IsNumber, entry_in, with_newest, IsForeign, IsFirstDamageOf, IsMadeOf, IsReadFrom, IsDamageAmong};
 ghost use Rattle.cache_session.specs.Started.{IsOpened, HasStartCause};
 
 use crate::data_files::{has_foreign, number_behind, numbers_of, settle};
@@ -110,6 +110,23 @@ fn session_of(alloc: Global, table: Table, given: u64, file: u32) -> Result<Sess
     })
 }
 
+// Reads these data files, whose numbers rise, and makes a session of what they hold.
+fn read_session<H: Host>(alloc: Global, host: &mut H, numbers: &[u32], given: u64) -> Result<Session, StoreFault>
+    requires within { All IsNumber numbers.now }
+    requires rising { IsNonDecreasing numbers.now }
+    requires given { given < 2 ^ 61 }
+    ensures stands { IsTrue H.tells → Stands (H.state host.old) (H.state host.new) }
+    ensures read { IsTrue H.tells → IfOk result (λ session. IsReadFrom (H.state host.old).files numbers.now given session) }
+    ensures damaged { IsTrue H.tells → (damage : Damage) → IsErrOf result (fault.Damaged damage) → IsDamageAmong (H.state host.old).files numbers.now damage }
+    ensures usable { IfOk result (λ session. IsUsable session) }
+    ensures unspoilt { IfOk result (λ session. is_session_spoilt session ≡ false) }
+    ensures spent { (spent : Spent) → IsErrOf result (fault.Spent spent) → ⊥ }
+    ensures cause { HasStoreCause (H.state host.old) (H.state host.new) result }
+{
+    let table = read_all(alloc, host, numbers)?;
+    session_of(alloc, table, given, number_behind(numbers))
+}
+
 // Opens a directory with these files, which are all.
 fn open<H: Host>(alloc: Global, host: &mut H, names: &[FileName], given: u64) -> Result<Session, StoreFault>
     requires names { All IsFileName names.now }
@@ -128,8 +145,7 @@ fn open<H: Host>(alloc: Global, host: &mut H, names: &[FileName], given: u64) ->
 {
     let numbers = numbers_of(alloc, names)?;
     settle(host, &numbers)?;
-    let table = read_all(alloc, host, &numbers)?;
-    session_of(alloc, table, given, number_behind(&numbers))
+    read_session(alloc, host, &numbers, given)
 }
 
 impl Session {
@@ -156,6 +172,9 @@ impl Session {
         if has_foreign(&names) {
             return Err(StartFault::Foreign);
         }
-        Ok(open(alloc, host, &names, given)?)
+        match open(alloc, host, &names, given) {
+            Ok(session) => Ok(session),
+            Err(fault) => Err(StartFault::Store(fault)),
+        }
     }
 }

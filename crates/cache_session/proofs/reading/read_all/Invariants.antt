@@ -1,6 +1,6 @@
 use Rattle.std.proofs.Common.{◌≡◌, take, IsTrue}
 use Rattle.cache_disk.specs.State.{Stands}
-use Rattle.cache_session.proofs.Reads.{HaveRead}
+use Rattle.cache_session.proofs.Readings.{HaveRead}
 use Rattle.cache_session.proofs.reading.read_all.Given as goal
 
 abbrev pub invariant-loop-number : goal.invariant-loop-number
