@@ -1,5 +1,6 @@
 pub mod Bytes
 pub mod Frame
+pub mod Giving
 pub mod Reading
 pub mod Sealing
 pub mod Standing

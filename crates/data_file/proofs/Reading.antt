@@ -1,15 +1,14 @@
 -- Reading on: what a run of reads does to a window.
-use Rattle.std.proofs.Common.{◌≡◌, ℕ, ◌+◌, ◌-◌, ◌<◌, ◌≤◌, Bool, true, false, List, length, take, drop, ◌++◌, refl, sym, ap, ◌∙◌, arith, IsTrue, subst}
+use Rattle.std.proofs.Common.{◌≡◌, ℕ, ◌+◌, ◌-◌, ◌≤◌, Bool, List, length, take, drop, ◌++◌, sym, ap, ◌∙◌, arith, IsTrue, subst, inl, inr, add_assoc, min}
 use Rattle.std.proofs.lemmas.List.{take-take, take_at, length-take-le, length-drop, length-append, drop-drop}
 use Rattle.std.proofs.Math.Seq.{take-add}
-use Rattle.std.specs.Prelude.{Result, Ok}
+use Rattle.std.specs.Prelude.{Ok}
 use Rattle.cache_model.specs.declared.files.FileName.{FileName}
 use Rattle.cache_model.specs.Files.{bytes_in}
-use Rattle.cache_disk.specs.State.{HostState, Stands}
+use Rattle.cache_disk.specs.State.{HostState, Stands, Asks}
 use Rattle.cache_disk.specs.Calls.{Read}
-use Rattle.cache_disk.specs.declared.host.HostFault.{HostFault}
 use Rattle.data_file.specs.declared.window.Window.{Window}
-use Rattle.data_file.specs.Windows.{shown_bytes, known_to, ShowsFile, IsFull}
+use Rattle.data_file.specs.Windows.{known_to, ShowsFile, AsksFor}
 
 -- A window that was read on for a while.
 pub record Filling (first now : Window) (tells : Bool) (old new : HostState) : Type 0 where
@@ -18,6 +17,8 @@ pub record Filling (first now : Window) (tells : Bool) (old new : HostState) : T
   pub at : now.at ≡ first.at
   pub stands : IsTrue tells → Stands old new
   pub shows : IsTrue tells → ShowsFile now (bytes_in old.files first.name)
+  pub reads : known_to first ≤ known_to now
+  pub asked : IsTrue tells → AsksFor old new (known_to now - known_to first)
   pub disk_faults : new.disk_faults ≡ old.disk_faults
   pub say_faults : new.say_faults ≡ old.say_faults
 

@@ -1,5 +1,5 @@
 -- What a scan of a file has still to give.
-use Rattle.std.specs.Prelude.{◌≡◌, ℕ, ◌+◌, ◌-◌, ◌≤◌, Bool, true, false, List, length, drop, Option, Result, IfOk, OnOk, IsErrOf, MatchOption}
+use Rattle.std.specs.Prelude.{◌≡◌, ℕ, ◌+◌, ◌-◌, Bool, true, false, List, length, drop, Option, Result, IfOk, OnOk, IsErrOf, MatchOption}
 use Rattle.cache_model.specs.declared.files.FileName.{FileName}
 use Rattle.cache_model.specs.declared.faults.Damage.{Damage}
 use Rattle.cache_model.specs.declared.faults.StoreFault.{StoreFault}
@@ -11,7 +11,7 @@ use Rattle.data_file.specs.declared.scan.Stage.{Stage}
 use Rattle.data_file.specs.declared.scan.Stage.TheVariants.{Front, Item as DueItem, Gate, End}
 use Rattle.data_file.specs.declared.scan.Scanned.{Scanned}
 use Rattle.data_file.specs.declared.scan.Scan.{Scan}
-use Rattle.data_file.specs.Windows.{ShowsFile}
+use Rattle.data_file.specs.Windows.{known_to, ShowsFile}
 
 -- the file that it reads
 abbrev pub scanned_name : Scan → FileName
@@ -24,6 +24,10 @@ is_spoilt scan = scan.spoilt
 -- how many bytes of the file lie behind its offset
 abbrev pub left_of : Scan → ℕ
 left_of scan = scan.window.size - scan.window.at
+
+-- up to which offset the file was read
+abbrev pub read_to : Scan → ℕ
+read_to scan = known_to scan.window
 
 -- what is found from an offset on within a counted frame, where these bytes stand there
 abbrev pub found_from : ℕ → List ℕ → Found

@@ -1,5 +1,6 @@
 -- What a window shows of a file.
 use Rattle.std.specs.Prelude.{◌≡◌, ◌⊎◌, ℕ, ◌+◌, ◌≤◌, List, length, take, drop}
+use Rattle.cache_disk.specs.State.{HostState, Rose, Asks}
 use Rattle.data_file.specs.declared.window.Window.{Window}
 
 -- the bytes that were read and not forgotten
@@ -18,3 +19,7 @@ pub record ShowsFile (window : Window) (file : List ℕ) : Type 0 where
 -- the window has the bytes of any item, or all that the file has from its offset on
 abbrev pub IsFull : Window → Type 0
 IsFull window = (66583 ≤ length (shown_bytes window)) ⊎ (known_to window ≡ window.size)
+
+-- so many bytes were asked for, if no read gave fewer bytes than it could
+abbrev pub AsksFor : HostState → HostState → ℕ → Type 0
+AsksFor old new count = Rose old.short_reads new.short_reads ⊎ ((new.short_reads ≡ old.short_reads) × Asks old new count)

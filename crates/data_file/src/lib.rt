@@ -7,3 +7,6 @@ mod window;
 
 pub use appender::Appender;
 pub use scan::{Scan, Scanned};
+
+#[cfg(test)]
+mod tests;

@@ -1,5 +1,5 @@
 // Reads a data file item by item.
-ghost use Rattle.std.specs.Prelude.{◌≡◌, ◌+◌, ◌<◌, ◌≤◌, ◌^◌, ◌↔◌, length, drop, slice_index, false, true, IsTrue, IfOk, IfSome, OnOk, OnErr, IsErrOf};
+ghost use Rattle.std.specs.Prelude.{◌≡◌, ◌+◌, ◌-◌, ◌<◌, ◌≤◌, ◌^◌, ◌↔◌, length, drop, slice_index, false, true, IsTrue, IfOk, IfSome, OnOk, OnErr, IsErrOf};
 ghost use Rattle.cache_model.specs.declared.faults.Spent.{Spent};
 ghost use Rattle.cache_model.specs.declared.faults.StoreFault.TheVariants.{Memory};
 ghost use Rattle.cache_model.specs.Files.{IsFileName, bytes_in};
@@ -7,8 +7,8 @@ ghost use Rattle.cache_disk.specs.State.{Stands};
 ghost use Rattle.cache_disk.specs.Calls.{HasStoreCause};
 ghost use Rattle.record_format.specs.Meaning.{own_item, item_in, AreParts};
 ghost use Rattle.cache_model.specs.Items.{IsItem, spelling};
-ghost use Rattle.data_file.specs.Windows.{shown_bytes};
-ghost use Rattle.data_file.specs.Scanning.{scanned_name, is_spoilt, left_of, rest_of, IsScanOf, stage_behind, HasGiven, HasFound, HasPassed, IsGiven, Begins};
+ghost use Rattle.data_file.specs.Windows.{shown_bytes, AsksFor};
+ghost use Rattle.data_file.specs.Scanning.{scanned_name, is_spoilt, left_of, read_to, rest_of, IsScanOf, stage_behind, HasGiven, HasFound, HasPassed, IsGiven, Begins};
 
 use crate::window::Window;
 use cache_disk::Host;
@@ -98,6 +98,9 @@ impl Scan {
         ensures goes { IfOk result (λ found. IfSome found (λ _. left_of self.new < left_of self.old)) }
         ensures limits { IfOk result (λ found. IfSome found (IsGiven (scanned_name self.old))) }
         ensures stands { IsTrue H.tells → Stands (H.state host.old) (H.state host.new) }
+        ensures reads { read_to self.old ≤ read_to self.new }
+        ensures asked { IsTrue H.tells → OnOk result (AsksFor (H.state host.old) (H.state host.new) (read_to self.new - read_to self.old)) }
+        ensures scans { IsTrue H.tells → OnOk result (IsScanOf self.new (bytes_in (H.state host.new).files (scanned_name self.old))) }
         ensures told { IsTrue H.tells → HasGiven self.old self.new (bytes_in (H.state host.old).files (scanned_name self.old)) result }
         ensures spent { (spent : Spent) → IsErrOf result (StoreFault.Spent spent) → ⊥ }
         ensures cause { HasStoreCause (H.state host.old) (H.state host.new) result }
@@ -124,11 +127,17 @@ impl Scan {
         ensures goes { IfOk result (λ found. IfSome found (λ _. left_of self.new < left_of self.old)) }
         ensures limits { IfOk result (λ found. IfSome found (IsGiven (scanned_name self.old))) }
         ensures stands { IsTrue H.tells → Stands (H.state host.old) (H.state host.new) }
+        ensures reads { read_to self.old ≤ read_to self.new }
+        ensures asked { IsTrue H.tells → OnOk result (AsksFor (H.state host.old) (H.state host.new) (read_to self.new - read_to self.old)) }
         ensures told { IsTrue H.tells → HasGiven self.old self.new (bytes_in (H.state host.old).files (scanned_name self.old)) result }
         ensures spent { (spent : Spent) → IsErrOf result (StoreFault.Spent spent) → ⊥ }
         ensures cause { HasStoreCause (H.state host.old) (H.state host.new) result }
     {
-        if self.pass(host)? { Ok(Some(self.item(host)?)) } else { Ok(None) }
+        if self.pass(host)? {
+            Ok(Some(self.item(host)?))
+        } else {
+            Ok(None)
+        }
     }
 
     // Passes the gate that is due, if one is, and says whether an item is due behind it.
@@ -139,6 +148,8 @@ impl Scan {
         ensures spoilt { self.new.spoilt ≡ self.old.spoilt }
         ensures left { left_of self.new ≤ left_of self.old }
         ensures stands { IsTrue H.tells → Stands (H.state host.old) (H.state host.new) }
+        ensures reads { read_to self.old ≤ read_to self.new }
+        ensures asked { IsTrue H.tells → OnOk result (AsksFor (H.state host.old) (H.state host.new) (read_to self.new - read_to self.old)) }
         ensures told { IsTrue H.tells → HasPassed self.old self.new (bytes_in (H.state host.old).files self.old.window.name) result }
         ensures spent { (spent : Spent) → IsErrOf result (StoreFault.Spent spent) → ⊥ }
         ensures cause { HasStoreCause (H.state host.old) (H.state host.new) result }
@@ -160,6 +171,8 @@ impl Scan {
         ensures spoilt { self.new.spoilt ≡ self.old.spoilt }
         ensures left { left_of self.new ≤ left_of self.old }
         ensures stands { IsTrue H.tells → Stands (H.state host.old) (H.state host.new) }
+        ensures reads { read_to self.old ≤ read_to self.new }
+        ensures asked { IsTrue H.tells → OnOk result (AsksFor (H.state host.old) (H.state host.new) (read_to self.new - read_to self.old)) }
         ensures told { IsTrue H.tells → HasPassed self.old self.new (bytes_in (H.state host.old).files self.old.window.name) result }
         ensures spent { (spent : Spent) → IsErrOf result (StoreFault.Spent spent) → ⊥ }
         ensures cause { HasStoreCause (H.state host.old) (H.state host.new) result }
@@ -188,6 +201,8 @@ impl Scan {
         ensures spoilt { self.new.spoilt ≡ self.old.spoilt }
         ensures left { left_of self.new ≤ left_of self.old }
         ensures stands { IsTrue H.tells → Stands (H.state host.old) (H.state host.new) }
+        ensures reads { read_to self.old ≤ read_to self.new }
+        ensures asked { IsTrue H.tells → OnOk result (AsksFor (H.state host.old) (H.state host.new) (read_to self.new - read_to self.old)) }
         ensures told { IsTrue H.tells → HasPassed self.old self.new (bytes_in (H.state host.old).files self.old.window.name) result }
         ensures spent { (spent : Spent) → IsErrOf result (StoreFault.Spent spent) → ⊥ }
         ensures cause { HasStoreCause (H.state host.old) (H.state host.new) result }
@@ -216,6 +231,8 @@ impl Scan {
         ensures goes { OnOk result (left_of self.new < left_of self.old) }
         ensures limits { IfOk result (IsGiven self.old.window.name) }
         ensures stands { IsTrue H.tells → Stands (H.state host.old) (H.state host.new) }
+        ensures reads { read_to self.old ≤ read_to self.new }
+        ensures asked { IsTrue H.tells → OnOk result (AsksFor (H.state host.old) (H.state host.new) (read_to self.new - read_to self.old)) }
         ensures told { IsTrue H.tells → HasFound self.old self.new (bytes_in (H.state host.old).files self.old.window.name) result }
         ensures spent { (spent : Spent) → IsErrOf result (StoreFault.Spent spent) → ⊥ }
         ensures cause { HasStoreCause (H.state host.old) (H.state host.new) result }
@@ -245,6 +262,7 @@ impl Scan {
         ensures sized { self.new.window.size ≡ self.old.window.size }
         ensures at { OnOk result (self.new.window.at ≡ self.old.window.at + size) }
         ensures shown { OnOk result (shown_bytes self.new.window ≡ drop size (shown_bytes self.old.window)) }
+        ensures reads { read_to self.new ≡ read_to self.old }
         ensures limits { IfOk result (IsGiven self.old.window.name) }
         ensures placed { IfOk result (λ one. one.place.at ≡ self.old.window.at) }
         ensures given { IfOk result (λ one. own_item one.item ≡ item_in (shown_bytes self.old.window) item) }

@@ -56,7 +56,13 @@ fn zeros(alloc: Global, count: usize) -> Result<Vec<u8>, StoreFault>
 }
 
 // Reads into the front of a buffer, so many bytes at most.
-fn read_into<H: Host>(host: &mut H, name: FileName, at: u64, buffer: &mut [u8], wanted: usize) -> Result<usize, HostFault>
+fn read_into<H: Host>(
+    host: &mut H,
+    name: FileName,
+    at: u64,
+    buffer: &mut [u8],
+    wanted: usize,
+) -> Result<usize, HostFault>
     requires name { IsFileName name }
     requires room { wanted ≤ length buffer.old }
     ensures within { IfOk result (λ count. count ≤ wanted) }
@@ -67,7 +73,7 @@ fn read_into<H: Host>(host: &mut H, name: FileName, at: u64, buffer: &mut [u8], 
 }
 
 impl Window {
-    ghost use Rattle.data_file.specs.Windows.{shown_bytes, known_to, ShowsFile, IsFull};
+    ghost use Rattle.data_file.specs.Windows.{shown_bytes, known_to, ShowsFile, IsFull, AsksFor};
 
     /// A window at the front of a file of this size, of which nothing was read yet.
     pub fn new(alloc: Global, name: FileName, size: u64) -> Result<Window, StoreFault>
@@ -103,6 +109,7 @@ impl Window {
         ensures rest { shown_bytes self.new ≡ drop count (shown_bytes self.old) }
         ensures named { self.new.name ≡ self.old.name }
         ensures sized { self.new.size ≡ self.old.size }
+        ensures known { known_to self.new ≡ known_to self.old }
     {
         self.at += count as u64;
         self.forgotten += count;
@@ -118,6 +125,8 @@ impl Window {
         ensures stands { IsTrue H.tells → Stands (H.state host.old) (H.state host.new) }
         ensures shows { IsTrue H.tells → OnOk result (ShowsFile self.new (bytes_in (H.state host.old).files self.old.name)) }
         ensures full { IsTrue H.tells → OnOk result (IsFull self.new) }
+        ensures reads { known_to self.old ≤ known_to self.new }
+        ensures asked { IsTrue H.tells → OnOk result (AsksFor (H.state host.old) (H.state host.new) (known_to self.new - known_to self.old)) }
         ensures cause { DiskCause (H.state host.old) (H.state host.new) result }
     {
         while self.bytes().len() < ITEM_LIMIT {
@@ -138,6 +147,8 @@ impl Window {
         ensures more { IfOk result (λ more. IsTrue more → known_to self.old < known_to self.new) }
         ensures stands { IsTrue H.tells → Stands (H.state host.old) (H.state host.new) }
         ensures shows { IsTrue H.tells → OnOk result (ShowsFile self.new (bytes_in (H.state host.old).files self.old.name)) }
+        ensures reads { known_to self.old ≤ known_to self.new }
+        ensures asked { IsTrue H.tells → OnOk result (AsksFor (H.state host.old) (H.state host.new) (known_to self.new - known_to self.old)) }
         ensures whole { IsTrue H.tells → IfOk result (λ more. more ≡ false → known_to self.new ≡ self.new.size) }
         ensures cause { DiskCause (H.state host.old) (H.state host.new) result }
     {

@@ -1,4 +1,4 @@
-use Rattle.std.proofs.Common.{List, ℕ, take, sym, subst}
+use Rattle.std.proofs.Common.{take, sym, subst}
 use Rattle.cache_disk.specs.Calls.{Read}
 use Rattle.data_file.proofs.Reading.{front_of}
 use Rattle.data_file.proofs.window.read_into.Goals as goal

@@ -1,7 +1,5 @@
-use Rattle.std.proofs.Common.{◌≡◌, ◌≤◌, ◌<◌, ◌+◌, ◌-◌, length, IsTrue}
-use Rattle.cache_model.specs.Files.{bytes_in}
-use Rattle.cache_disk.specs.State.{Stands}
-use Rattle.data_file.specs.Windows.{shown_bytes, known_to, ShowsFile, IsFull}
+use Rattle.std.proofs.Common.{◌-◌}
+use Rattle.data_file.specs.Windows.{known_to}
 use Rattle.data_file.proofs.Reading.{Filling}
 use Rattle.data_file.proofs.window.Window.fill.Given as goal
 
