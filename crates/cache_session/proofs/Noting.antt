@@ -289,8 +289,8 @@ stands-record table new counted one key newest stands is items mark above later 
       ⊎_elim
       (λ before. rw mark (stands.bound n a m before))
       (λ (same : one ≡ record { number = n; at = a; item = end m }).
-          let none : None ≡ Some key = sym (ap (λ (c : Counted). key_of c.item) same) ∙ is.of_key in
-          absurd (cc))
+      let none : None ≡ Some key = sym (ap (λ (c : Counted). key_of c.item) same) ∙ is.of_key in
+      absurd (cc))
       (Contains-push_cases counted one _ among);
   reached = ⊎_elim (λ none. inl (mark ∙ none)) (λ some. inr (some.0, some.1, rw mark (Contains-append_left counted (one ∷ []) _ some.2))) stands.reached;
 }
@@ -299,16 +299,16 @@ stands-record table new counted one key newest stands is items mark above later 
     by-test q true same =
         let the : key ≡ q = sym (same-key q key same) in
         let here : IsNewestOf (counted ++ one ∷ []) key (lookup (bytes_eq key) (noted key newest table.records.items)) =
-            subst (IsNewestOf (counted ++ one ∷ []) key) (sym (lookup-noted key newest table.records.items))
-            (newest-same counted one key newest _ is (stands.newest key))
+        subst (IsNewestOf (counted ++ one ∷ []) key) (sym (lookup-noted key newest table.records.items))
+        (newest-same counted one key newest _ is (stands.newest key))
         in
         subst (λ k. IsNewestOf (counted ++ one ∷ []) k (lookup (bytes_eq k) (noted key newest table.records.items))) the here
     by-test q false differs =
         let apart : key_of one.item ≡ Some q → ⊥ = λ of_key.
-            let both : Some key ≡ Some q = sym is.of_key ∙ of_key in
-            let the : key ≡ q = cc in
-            let there : true ≡ false = sym (key-same q) ∙ subst (λ k. bytes_eq q k ≡ false) the differs in
-            cc
+        let both : Some key ≡ Some q = sym is.of_key ∙ of_key in
+        let the : key ≡ q = cc in
+        let there : true ≡ false = sym (key-same q) ∙ subst (λ k. bytes_eq q k ≡ false) the differs in
+        cc
         in
         subst (IsNewestOf (counted ++ one ∷ []) q) (sym (lookup-noted-other q key newest table.records.items differs))
         (newest-other counted one q _ apart (stands.newest q))

@@ -33,10 +33,6 @@ use Rattle.cache_session.proofs.Members.{IsImageOf, IsInPartOf, among-map, map-a
 abbrev pub AreAllNumbers : Image → List ℕ → Type 0
 AreAllNumbers files numbers = (n : ℕ) → (Contains numbers n ↔ IsSome (file_in files (log_name n)))
 
-
-
-
-
 -- a file that is there has the bytes that are read
 there-bytes : (found : Option (List ℕ)) → IsSome found → found ≡ Some (unwrap_or found [])
 there-bytes None there = let some : false ≡ true = there in cc
@@ -78,14 +74,18 @@ pub has-entry : (files : Image) (numbers : List ℕ) (key : List ℕ) (found : O
 has-entry files numbers key None each none =
     inl (λ n a item counted of_key. none (record { number = n; at = a; item = item }) (is-taken files numbers n a item each counted) of_key, refl)
 has-entry files numbers key (Some newest) each is =
-    inr (newest.file, newest.at, is.item,
-    record {
-      counted = counts files numbers newest.file newest.at is.item each is.among;
-      of_key = is.of_key;
-      newest = λ n a other counted of_key.
-          rw (← is.seq) (is.first (record { number = n; at = a; item = other }) (is-taken files numbers n a other each counted) of_key);
-    },
-    is.entry)
+    inr (
+      newest.file,
+      newest.at,
+      is.item,
+      record {
+        counted = counts files numbers newest.file newest.at is.item each is.among;
+        of_key = is.of_key;
+        newest = λ n a other counted of_key.
+            rw (← is.seq) (is.first (record { number = n; at = a; item = other }) (is-taken files numbers n a other each counted) of_key);
+      },
+      is.entry,
+    )
 
 -- the mark of the files
 pub has-mark : (files : Image) (numbers : List ℕ) (table : Table) → AreAllNumbers files numbers → StandsForItems table (counted_of files numbers) → IsMark files table.mark
@@ -186,10 +186,11 @@ opened a b c numbers table session given file each_a same all still stands undam
     reads = Stands-left b c (λ image. Reads image plain) still (λ image left. reads-there b.files image plain (there image left) of_files);
     numbers = Stands-left b c (λ image. IsAboveRecords session.next image) still
         (λ image left. above-there b.files image session.next (there image left) (subst (λ n. IsAboveRecords n b.files) (sym made.next) (is-above b.files numbers table each stands)));
-    file = subst (λ log. IsFileOf log session.file c []) (sym made.log)
-        (refl,
-        Stands-left b c (λ image. file_in image (log_name session.file) ≡ None) still
-        (λ image left. there image left session.file ∙ subst (λ n. file_in b.files (log_name n) ≡ None) (sym made.file_is) (absent b.files numbers file each above)));
+    file = subst (λ log. IsFileOf log session.file c []) (sym made.log) (
+      refl,
+      Stands-left b c (λ image. file_in image (log_name session.file) ≡ None) still
+          (λ image left. there image left session.file ∙ subst (λ n. file_in b.files (log_name n) ≡ None) (sym made.file_is) (absent b.files numbers file each above)),
+    );
   };
 }
   where
@@ -216,17 +217,18 @@ pub first-damage : (files : Image) (numbers : List ℕ) (damage : Damage) → Ar
 first-damage files numbers damage each rising among =
     let number = slice_index numbers among.index in
     let id : number ≡ damage.file.id = sym (ap (λ (f : FileName). f.id) among.names.file) in
-    subst (λ n. (damage.file ≡ log_name n) × IsFirstDamage files n damage.at damage.kind) id
-    (among.names.file,
-    record {
-      bytes = bytes_in files (log_name number);
-      there = there-bytes (file_in files (log_name number)) ((each number).0 (Contains-get_or numbers among.index 0 among.within));
-      damage = among.names.is;
-      first = λ n other less there.
-          let some : IsSome (file_in files (log_name n)) = subst (λ (f : Option (List ℕ)). IsSome f) (sym there) refl in
-          let is : bytes_in files (log_name n) ≡ other = ap (λ (f : Option (List ℕ)). unwrap_or f []) there in
-          subst IsUndamaged is (among.before n (earlier n less ((each n).1 some)));
-    })
+    subst (λ n. (damage.file ≡ log_name n) × IsFirstDamage files n damage.at damage.kind) id (
+      among.names.file,
+      record {
+        bytes = bytes_in files (log_name number);
+        there = there-bytes (file_in files (log_name number)) ((each number).0 (Contains-get_or numbers among.index 0 among.within));
+        damage = among.names.is;
+        first = λ n other less there.
+            let some : IsSome (file_in files (log_name n)) = subst (λ (f : Option (List ℕ)). IsSome f) (sym there) refl in
+            let is : bytes_in files (log_name n) ≡ other = ap (λ (f : Option (List ℕ)). unwrap_or f []) there in
+            subst IsUndamaged is (among.before n (earlier n less ((each n).1 some)));
+      },
+    )
   where
     cases_le : (i j : ℕ) → (i ≤ j) ⊎ (j < i)
     cases_le i j = ⊎_elim (λ lt. inr lt) (λ le. inl le) (cases_lt j i)
@@ -236,23 +238,24 @@ first-damage files numbers damage each rising among =
         let j = here.0 in
         let same : slice_index_or numbers among.index n ≡ slice_index numbers among.index = get_or_default numbers among.index n 0 among.within in
         let before : j < among.index =
-            ⊎_elim
-            (λ le. let order = rising among.index j n le here.1 in absurd (omega (arith, order, same, here.2, less)))
-            (λ lt. lt)
-            (cases_le among.index j)
+        ⊎_elim
+        (λ le. let order = rising among.index j n le here.1 in absurd (omega (arith, order, same, here.2, less)))
+        (λ lt. lt)
+        (cases_le among.index j)
         in
         let short : length (take among.index numbers) ≡ among.index = length-take-le among.index numbers (omega (arith, among.within)) in
         (j, omega (arith, before, short), get_or-take among.index numbers j n before ∙ here.2)
 
 pub first-damage-there : (files image : Image) (damage : Damage) → SameLogs files image → IsFirstDamageOf files damage → IsFirstDamageOf image damage
-first-damage-there files image damage same (named, is) =
-    (named,
-    record {
-      bytes = is.bytes;
-      there = same damage.file.id ∙ is.there;
-      damage = is.damage;
-      first = λ n other less there. is.first n other less (sym (same n) ∙ there);
-    })
+first-damage-there files image damage same (named, is) = (
+  named,
+  record {
+    bytes = is.bytes;
+    there = same damage.file.id ∙ is.there;
+    damage = is.damage;
+    first = λ n other less there. is.first n other less (sym (same n) ∙ there);
+  },
+)
 
 -- what holds of an answer that is Ok
 pub if-ok : {T E : Type 0} (answer : Result T E) (P Q : T → Type 0) → IfOk answer P → ((x : T) → P x → Q x) → IfOk answer Q

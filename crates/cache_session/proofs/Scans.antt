@@ -52,7 +52,7 @@ pub taking-more : (number : ℕ) (file same : List ℕ) (first now more : Scan) 
     → Taking number file first more before after
 taking-more number file same first now more before mid after one is taking given takes =
     let rest : rest_of now file ≡ and_then (one.place.at, own_item one.item) (rest_of more file) =
-        subst (λ f. rest_of now f ≡ and_then (one.place.at, own_item one.item) (rest_of more f)) is given.given
+    subst (λ f. rest_of now f ≡ and_then (one.place.at, own_item one.item) (rest_of more f)) is given.given
     in
     record {
       done = taking.done ++ (one.place.at, own_item one.item) ∷ [];

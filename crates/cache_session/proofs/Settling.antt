@@ -74,10 +74,10 @@ pub settled-names : (a b c : HostState) (numbers : List ℕ) (done : Unit {0})
 settled-names a b c numbers done each files all synced =
     left_after b c (HasNames b.files) (IsSettledAll numbers a.files) (SameLogs a.files) synced.turn.ok synced.settled all
     (λ d m was step n.
-        let name = log_name n in
-        let there : IsSome (file_in m name) ↔ IsSome (file_in a.files name) = subst (λ (f : Option (List ℕ)). IsSome (file_in m name) ↔ IsSome f) (files name) (step.names name) in
-        same-file (file_in a.files name) (file_in m name) there
-        (λ read. ⊎_elim (λ none. inl (step.stays name ∙ none)) (λ is. inr (step.stays name ∙ is)) (was n ((each n).1 read))))
+    let name = log_name n in
+    let there : IsSome (file_in m name) ↔ IsSome (file_in a.files name) = subst (λ (f : Option (List ℕ)). IsSome (file_in m name) ↔ IsSome f) (files name) (step.names name) in
+    same-file (file_in a.files name) (file_in m name) there
+    (λ read. ⊎_elim (λ none. inl (step.stays name ∙ none)) (λ is. inr (step.stays name ∙ is)) (was n ((each n).1 read))))
 
 pub settled-names-if : (a b c : HostState) (numbers : List ℕ) (answer : Result (Unit {0}) HostFault)
     → ((n : ℕ) → (Contains numbers n ↔ IsSome (file_in a.files (log_name n))))

@@ -38,13 +38,7 @@ fn number_in(name: FileName) -> Option<u32>
     ensures { result ≡ number_in name }
 {
     match name.kind {
-        FileKind::Log => {
-            if name.store == 0 {
-                Some(name.id)
-            } else {
-                None
-            }
-        }
+        FileKind::Log => { if name.store == 0 { Some(name.id) } else { None } }
         FileKind::Rules | FileKind::Tree | FileKind::Base => None,
     }
 }

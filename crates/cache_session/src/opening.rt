@@ -111,7 +111,12 @@ fn session_of(alloc: Global, table: Table, given: u64, file: u32) -> Result<Sess
 }
 
 // Reads these data files, whose numbers rise, and makes a session of what they hold.
-fn read_session<H: Host>(alloc: Global, host: &mut H, numbers: &[u32], given: u64) -> Result<Session, StoreFault>
+fn read_session<H: Host>(
+    alloc: Global,
+    host: &mut H,
+    numbers: &[u32],
+    given: u64,
+) -> Result<Session, StoreFault>
     requires within { All IsNumber numbers.now }
     requires rising { IsNonDecreasing numbers.now }
     requires given { given < 2 ^ 61 }
@@ -128,7 +133,12 @@ fn read_session<H: Host>(alloc: Global, host: &mut H, numbers: &[u32], given: u6
 }
 
 // Opens a directory with these files, which are all.
-fn open<H: Host>(alloc: Global, host: &mut H, names: &[FileName], given: u64) -> Result<Session, StoreFault>
+fn open<H: Host>(
+    alloc: Global,
+    host: &mut H,
+    names: &[FileName],
+    given: u64,
+) -> Result<Session, StoreFault>
     requires names { All IsFileName names.now }
     requires each { IsTrue H.tells → (name : FileName) → (Contains names.now name ↔ IsSome (file_in (H.state host.old).files name)) }
     requires given { given < 2 ^ 61 }

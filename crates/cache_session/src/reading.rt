@@ -36,7 +36,12 @@ fn take_one(table: &mut Table, number: u32, one: Scanned) -> Result<(), StoreFau
 }
 
 // Takes the items that a scan of a data file has still to give into the table.
-fn take_items<H: Host>(host: &mut H, number: u32, scan: &mut Scan, table: &mut Table) -> Result<(), StoreFault>
+fn take_items<H: Host>(
+    host: &mut H,
+    number: u32,
+    scan: &mut Scan,
+    table: &mut Table,
+) -> Result<(), StoreFault>
     requires number { IsNumber number }
     requires sound { is_spoilt scan.old ≡ false }
     requires name { scanned_name scan.old ≡ log_name number }
@@ -57,7 +62,13 @@ fn take_items<H: Host>(host: &mut H, number: u32, scan: &mut Scan, table: &mut T
 }
 
 // Takes the items of a data file of this size into the table.
-fn take_file<H: Host>(alloc: Global, host: &mut H, number: u32, size: u64, table: &mut Table) -> Result<(), StoreFault>
+fn take_file<H: Host>(
+    alloc: Global,
+    host: &mut H,
+    number: u32,
+    size: u64,
+    table: &mut Table,
+) -> Result<(), StoreFault>
     requires number { IsNumber number }
     requires sized { IsTrue H.tells → size ≡ length (bytes_in (H.state host.old).files (log_name number)) }
     ensures stands { IsTrue H.tells → Stands (H.state host.old) (H.state host.new) }
@@ -74,7 +85,12 @@ fn take_file<H: Host>(alloc: Global, host: &mut H, number: u32, size: u64, table
 }
 
 // Takes the items of a data file into the table. A file that isn't there has none.
-fn read_file<H: Host>(alloc: Global, host: &mut H, number: u32, table: &mut Table) -> Result<(), StoreFault>
+fn read_file<H: Host>(
+    alloc: Global,
+    host: &mut H,
+    number: u32,
+    table: &mut Table,
+) -> Result<(), StoreFault>
     requires { IsNumber number }
     ensures stands { IsTrue H.tells → Stands (H.state host.old) (H.state host.new) }
     ensures read { IsTrue H.tells → (counted : List Counted) → StandsForItems table.old counted
@@ -92,7 +108,11 @@ fn read_file<H: Host>(alloc: Global, host: &mut H, number: u32, table: &mut Tabl
 }
 
 /// The newest records of all keys in these data files.
-pub(crate) fn read_all<H: Host>(alloc: Global, host: &mut H, numbers: &[u32]) -> Result<Table, StoreFault>
+pub(crate) fn read_all<H: Host>(
+    alloc: Global,
+    host: &mut H,
+    numbers: &[u32],
+) -> Result<Table, StoreFault>
     requires { All IsNumber numbers.now }
     ensures stands { IsTrue H.tells → Stands (H.state host.old) (H.state host.new) }
     ensures read { IsTrue H.tells → IfOk result (λ table. StandsForItems table (counted_of (H.state host.old).files numbers.now)) }
