@@ -1,2 +1,4 @@
 pub mod Held
+pub mod Opening
 pub mod Session
+pub mod Started

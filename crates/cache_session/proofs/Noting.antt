@@ -1,0 +1,376 @@
+-- The newest record of each key, over plain lists.
+use Rattle.std.proofs.Common.{◌≡◌, ℕ, suc, ◌+◌, ◌<◌, ◌≤◌, ◌==◌, ◌⊎◌, inl, inr, ⊎_elim, Bool, true, false, cond, List, [], ◌∷◌, ◌++◌, length, map, get_or, set, Option, Some, None, Contains, nat_lt, Result, Ok, Err, OnOk, refl, sym, ap, subst, ◌∙◌, arith, add-one}
+use Rattle.std.specs.Prelude.{if◌then◌else◌}
+use Rattle.std.specs.List.{IsDistinct, AllByRecursion}
+use Rattle.std.specs.Map.{lookup, keys_of}
+use Rattle.std.specs.Str.{bytes_eq}
+use Rattle.std.proofs.lemmas.Bool.Decides.{nat_tests}
+use Rattle.std.proofs.lemmas.Slice.Eq.{bytes_eq-Decides}
+use Rattle.std.proofs.lemmas.List.Elements.{Contains-append_left, Contains-push, Contains-push_cases}
+use Rattle.cache_model.specs.Items.{Item, end}
+use Rattle.cache_model.specs.Images.{key_of, sequence_of, entry_by, IsNoNewer}
+use Rattle.cache_session.specs.declared.newest.Newest.{Newest}
+use Rattle.cache_session.specs.declared.newest.Table.{Table}
+use Rattle.cache_session.specs.Opening.{is_newer, newer_of, Records, place_of, noted, Counted, IsNewestIn, IsNewestOf, StandsForItems}
+
+-- the order of records
+
+-- the triple by which records are ordered
+abbrev pub rank : Newest → ℕ × ℕ × ℕ
+rank newest = (newest.seq, newest.file, newest.at)
+
+pub IsNoNewer-same : (a : ℕ × ℕ × ℕ) → IsNoNewer a a
+IsNoNewer-same a = inr (refl, inr (refl, omega arith))
+
+pub IsNoNewer-trans : (a b c : ℕ × ℕ × ℕ) → IsNoNewer a b → IsNoNewer b c → IsNoNewer a c
+IsNoNewer-trans a b c (inl lt) (inl lt2) = inl (omega arith)
+IsNoNewer-trans a b c (inl lt) (inr eq) = inl (omega (arith, lt, eq.0))
+IsNoNewer-trans a b c (inr eq) (inl lt) = inl (omega (arith, lt, eq.0))
+IsNoNewer-trans a b c (inr ab) (inr bc) = inr (ab.0 ∙ bc.0, files ab.1 bc.1)
+  where
+    files : (a.1 < b.1) ⊎ ((a.1 ≡ b.1) × (a.2 ≤ b.2)) → (b.1 < c.1) ⊎ ((b.1 ≡ c.1) × (b.2 ≤ c.2)) → (a.1 < c.1) ⊎ ((a.1 ≡ c.1) × (a.2 ≤ c.2))
+    files (inl lt) (inl lt2) = inl (omega arith)
+    files (inl lt) (inr eq) = inl (omega (arith, lt, eq.0))
+    files (inr eq) (inl lt) = inl (omega (arith, lt, eq.0))
+    files (inr one) (inr other) = inr (one.0 ∙ other.0, omega (arith, one.1, other.1))
+
+eq-from-test : (a b : ℕ) → (a == b) ≡ true → a ≡ b
+eq-from-test a b h = grind (arith, nat_tests)
+
+lt-from-test : (a b : ℕ) → nat_lt a b ≡ true → a < b
+lt-from-test a b h = grind (arith, nat_tests)
+
+le-from-test : (a b : ℕ) → nat_lt a b ≡ false → b ≤ a
+le-from-test a b h = grind (arith, nat_tests)
+
+apart-le : (a b : ℕ) → (a == b) ≡ false → nat_lt b a ≡ false → a < b
+apart-le a b h k = grind (arith, nat_tests)
+
+newer-when : (one other : Newest) (s f : Bool) → (one.seq == other.seq) ≡ s → (one.file == other.file) ≡ f
+    → (if s then (if f then nat_lt other.at one.at else nat_lt other.file one.file) else nat_lt other.seq one.seq) ≡ true
+    → IsNoNewer (rank other) (rank one)
+newer-when one other false f p q h = inl (lt-from-test _ _ h)
+newer-when one other true false p q h = inr (sym (eq-from-test _ _ p), inl (lt-from-test _ _ h))
+newer-when one other true true p q h =
+    let less = lt-from-test other.at one.at h in
+    inr (sym (eq-from-test _ _ p), inr (sym (eq-from-test _ _ q), omega (arith, less)))
+
+pub newer-true : (one other : Newest) → is_newer one other ≡ true → IsNoNewer (rank other) (rank one)
+newer-true one other h = newer-when one other _ _ refl refl h
+
+no-newer-when : (one other : Newest) (s f : Bool) → (one.seq == other.seq) ≡ s → (one.file == other.file) ≡ f
+    → (if s then (if f then nat_lt other.at one.at else nat_lt other.file one.file) else nat_lt other.seq one.seq) ≡ false
+    → IsNoNewer (rank one) (rank other)
+no-newer-when one other false f p q h = inl (apart-le _ _ p h)
+no-newer-when one other true false p q h = inr (eq-from-test _ _ p, inl (apart-le _ _ q h))
+no-newer-when one other true true p q h = inr (eq-from-test _ _ p, inr (eq-from-test _ _ q, le-from-test _ _ h))
+
+pub newer-false : (one other : Newest) → is_newer one other ≡ false → IsNoNewer (rank one) (rank other)
+newer-false one other h = no-newer-when one other _ _ refl refl h
+
+-- tests of keys
+
+pub same-key : (a b : List ℕ) → bytes_eq a b ≡ true → a ≡ b
+same-key a b h = (bytes_eq-Decides a b).0 h
+
+pub key-same : (a : List ℕ) → bytes_eq a a ≡ true
+key-same a = (bytes_eq-Decides a a).1 refl
+
+-- the place of a key
+
+pub place_of-le-length : (key : List ℕ) (es : Records) → place_of key es ≤ length es
+place_of-le-length key [] = omega arith
+place_of-le-length key (e ∷ es) = elim (bytes_eq key e.0) as (λ b. cond b 0 (suc (place_of key es)) ≤ suc (length es)) [ true ↦ omega arith | false ↦ omega (arith, place_of-le-length key es) ]
+
+-- behind the last record there is none of the key
+pub noted-end : (key : List ℕ) (newest : Newest) (es : Records) → place_of key es ≡ length es → noted key newest es ≡ es ++ (key, newest) ∷ []
+noted-end key newest [] h = refl
+noted-end key newest (e ∷ es) h = by-test (bytes_eq key e.0) (λ short. noted-end key newest es short) h
+  where
+    by-test : (b : Bool) → (place_of key es ≡ length es → noted key newest es ≡ es ++ (key, newest) ∷ [])
+        → cond b 0 (suc (place_of key es)) ≡ suc (length es) → cond b ((e.0, newer_of e.1 newest) ∷ es) (e ∷ noted key newest es) ≡ e ∷ (es ++ (key, newest) ∷ [])
+    by-test true rest h = absurd (omega (arith, h))
+    by-test false rest h = let short : place_of key es ≡ length es = omega (arith, h) in ap (λ l. e ∷ l) (rest short)
+
+-- the record of the key gives way to the newer of both
+pub noted-at : (key : List ℕ) (newest : Newest) (es : Records) (d : List ℕ × Newest) → place_of key es < length es
+    → noted key newest es ≡ set es (place_of key es) ((get_or es (place_of key es) d).0, newer_of (get_or es (place_of key es) d).1 newest)
+noted-at key newest [] d h = absurd (omega (arith, h))
+noted-at key newest (e ∷ es) d h = by-test (bytes_eq key e.0) (λ within. noted-at key newest es d within) h
+  where
+    by-test : (b : Bool)
+        → (place_of key es < length es → noted key newest es ≡ set es (place_of key es) ((get_or es (place_of key es) d).0, newer_of (get_or es (place_of key es) d).1 newest))
+        → cond b 0 (suc (place_of key es)) < suc (length es)
+        → cond b ((e.0, newer_of e.1 newest) ∷ es) (e ∷ noted key newest es)
+        ≡ set (e ∷ es) (cond b 0 (suc (place_of key es))) ((get_or (e ∷ es) (cond b 0 (suc (place_of key es))) d).0, newer_of (get_or (e ∷ es) (cond b 0 (suc (place_of key es))) d).1 newest)
+    by-test true rest h = refl
+    by-test false rest h = let within : place_of key es < length es = omega (arith, h) in ap (λ l. e ∷ l) (rest within)
+
+-- a newer one takes its place
+pub noted-newer : (key : List ℕ) (newest : Newest) (es : Records) (d : List ℕ × Newest) → place_of key es < length es
+    → is_newer newest (get_or es (place_of key es) d).1 ≡ true
+    → noted key newest es ≡ set es (place_of key es) ((get_or es (place_of key es) d).0, newest)
+noted-newer key newest es d h newer =
+    let one : List ℕ × Newest = get_or es (place_of key es) d in
+    noted-at key newest es d h ∙ ap (λ b. set es (place_of key es) (one.0, cond b newest one.1)) newer
+
+-- one that isn't newer changes nothing
+pub noted-kept : (key : List ℕ) (newest : Newest) (es : Records) (d : List ℕ × Newest) → place_of key es < length es
+    → is_newer newest (get_or es (place_of key es) d).1 ≡ false
+    → noted key newest es ≡ es
+noted-kept key newest [] d h newer = absurd (omega (arith, h))
+noted-kept key newest (e ∷ es) d h newer = by-test (bytes_eq key e.0) (λ within later. noted-kept key newest es d within later) h newer
+  where
+    by-test : (b : Bool)
+        → (place_of key es < length es → is_newer newest (get_or es (place_of key es) d).1 ≡ false → noted key newest es ≡ es)
+        → cond b 0 (suc (place_of key es)) < suc (length es)
+        → is_newer newest (get_or (e ∷ es) (cond b 0 (suc (place_of key es))) d).1 ≡ false
+        → cond b ((e.0, newer_of e.1 newest) ∷ es) (e ∷ noted key newest es) ≡ e ∷ es
+    by-test true rest h later = ap (λ b. (e.0, cond b newest e.1) ∷ es) later
+    by-test false rest h later = let within : place_of key es < length es = omega (arith, h) in ap (λ l. e ∷ l) (rest within later)
+
+-- looking a key up
+
+-- the newer one of the record of a key, where there is one, and of one more
+abbrev pub newer_with : Option Newest → Newest → Newest
+newer_with None more = more
+newer_with (Some kept) more = newer_of kept more
+
+pub lookup-noted : (key : List ℕ) (newest : Newest) (es : Records) → lookup (bytes_eq key) (noted key newest es) ≡ Some (newer_with (lookup (bytes_eq key) es) newest)
+lookup-noted key newest [] = ap (λ b. cond b (Some newest) None) (key-same key)
+lookup-noted key newest (e ∷ es) = by-test (bytes_eq key e.0) (lookup-noted key newest es) refl
+  where
+    by-test : (b : Bool) → lookup (bytes_eq key) (noted key newest es) ≡ Some (newer_with (lookup (bytes_eq key) es) newest) → bytes_eq key e.0 ≡ b
+        → lookup (bytes_eq key) (cond b ((e.0, newer_of e.1 newest) ∷ es) (e ∷ noted key newest es)) ≡ Some (newer_with (cond b (Some e.1) (lookup (bytes_eq key) es)) newest)
+    by-test true rest is = ap (λ b. cond b (Some (newer_of e.1 newest)) (lookup (bytes_eq key) es)) is
+    by-test false rest is = ap (λ b. cond b (Some e.1) (lookup (bytes_eq key) (noted key newest es))) is ∙ rest
+
+apart-keys : (q key other : List ℕ) → bytes_eq q key ≡ false → bytes_eq key other ≡ true → bytes_eq q other ≡ false
+apart-keys q key other apart same = subst (λ k. bytes_eq q k ≡ false) (same-key key other same) apart
+
+pub lookup-noted-other : (q key : List ℕ) (newest : Newest) (es : Records) → bytes_eq q key ≡ false → lookup (bytes_eq q) (noted key newest es) ≡ lookup (bytes_eq q) es
+lookup-noted-other q key newest [] apart = ap (λ b. cond b (Some newest) None) apart
+lookup-noted-other q key newest (e ∷ es) apart = by-test (bytes_eq key e.0) (lookup-noted-other q key newest es apart) refl
+  where
+    by-test : (b : Bool) → lookup (bytes_eq q) (noted key newest es) ≡ lookup (bytes_eq q) es → bytes_eq key e.0 ≡ b
+        → lookup (bytes_eq q) (cond b ((e.0, newer_of e.1 newest) ∷ es) (e ∷ noted key newest es)) ≡ cond (bytes_eq q e.0) (Some e.1) (lookup (bytes_eq q) es)
+    by-test true rest is =
+        let differs : bytes_eq q e.0 ≡ false = apart-keys q key e.0 apart is in
+        ap (λ b. cond b (Some (newer_of e.1 newest)) (lookup (bytes_eq q) es)) differs
+        ∙ sym (ap (λ b. cond b (Some e.1) (lookup (bytes_eq q) es)) differs)
+    by-test false rest is = ap (λ l. cond (bytes_eq q e.0) (Some e.1) l) rest
+
+-- the keys stay distinct
+
+flips : (a b : List ℕ) → bytes_eq a b ≡ false → bytes_eq b a ≡ false
+flips a b differs = by-test (bytes_eq b a) refl
+  where
+    by-test : (t : Bool) → bytes_eq b a ≡ t → t ≡ false
+    by-test true is =
+        let same : b ≡ a = same-key b a is in
+        let here : bytes_eq a a ≡ false = subst (λ k. bytes_eq a k ≡ false) same differs in
+        let there : true ≡ false = sym (key-same a) ∙ here in
+        absurd (cc)
+    by-test false is = refl
+
+keys-apart : (other key : List ℕ) (newest : Newest) (es : Records) → bytes_eq other key ≡ false → AllByRecursion (λ k. bytes_eq other k ≡ false) (keys_of es) → AllByRecursion (λ k. bytes_eq other k ≡ false) (keys_of (noted key newest es))
+keys-apart other key newest [] differs all = (differs, tt)
+keys-apart other key newest (e ∷ es) differs all =
+    elim (bytes_eq key e.0) as (λ b. AllByRecursion (λ k. bytes_eq other k ≡ false) (keys_of (cond b ((e.0, newer_of e.1 newest) ∷ es) (e ∷ noted key newest es))))
+    [ true ↦ all | false ↦ (all.0, keys-apart other key newest es differs all.1) ]
+
+pub distinct-noted : (key : List ℕ) (newest : Newest) (es : Records) → IsDistinct bytes_eq (keys_of es) → IsDistinct bytes_eq (keys_of (noted key newest es))
+unfolding IsDistinct
+distinct-noted key newest [] distinct = (tt, tt)
+distinct-noted key newest (e ∷ es) distinct = by-test (bytes_eq key e.0) (distinct-noted key newest es distinct.1) refl
+  where
+    by-test : (b : Bool) → IsDistinct bytes_eq (keys_of (noted key newest es)) → bytes_eq key e.0 ≡ b → IsDistinct bytes_eq (keys_of (cond b ((e.0, newer_of e.1 newest) ∷ es) (e ∷ noted key newest es)))
+    by-test true rest is = distinct
+    by-test false rest is = (keys-apart e.0 key newest es (flips key e.0 is) distinct.0, rest)
+
+-- one more item
+
+-- it isn't a record of this key
+pub newest-other : (counted : List Counted) (one : Counted) (key : List ℕ) (found : Option Newest) → (key_of one.item ≡ Some key → ⊥) → IsNewestOf counted key found → IsNewestOf (counted ++ one ∷ []) key found
+newest-other counted one key None apart none = λ other among of_key.
+    ⊎_elim (λ before. none other before of_key) (λ is. apart (ap (λ (c : Counted). key_of c.item) is ∙ of_key)) (Contains-push_cases counted one other among)
+newest-other counted one key (Some newest) apart is = record {
+  item = is.item;
+  among = Contains-append_left counted (one ∷ []) _ is.among;
+  of_key = is.of_key;
+  seq = is.seq;
+  entry = is.entry;
+  first = λ other among of_key.
+      ⊎_elim (λ before. is.first other before of_key) (λ same. absurd (apart (ap (λ (c : Counted). key_of c.item) same ∙ of_key))) (Contains-push_cases counted one other among);
+}
+
+-- A record as the table keeps it is this item.
+pub record IsRecordOf (newest : Newest) (key : List ℕ) (one : Counted) : Type 0 where
+  pub number : newest.file ≡ one.number
+  pub at : newest.at ≡ one.at
+  pub of_key : key_of one.item ≡ Some key
+  pub seq : newest.seq ≡ sequence_of one.item
+  pub entry : newest.entry ≡ entry_by one.item
+
+rank-of : (newest : Newest) (key : List ℕ) (one : Counted) (a : ℕ × ℕ × ℕ) → IsRecordOf newest key one → IsNoNewer (rank newest) a → IsNoNewer (sequence_of one.item, one.number, one.at) a
+rank-of newest key one a is h = rw (← is.seq, ← is.number, ← is.at) h
+
+-- it is the newest of its key
+newest-more : (counted : List Counted) (one : Counted) (key : List ℕ) (newest : Newest) → IsRecordOf newest key one
+    → ((other : Counted) → Contains counted other → key_of other.item ≡ Some key → IsNoNewer (sequence_of other.item, other.number, other.at) (rank newest))
+    → IsNewestIn (counted ++ one ∷ []) key newest
+newest-more counted one key newest is older = record {
+  item = one.item;
+  among = rw (is.number, is.at) (Contains-push counted one);
+  of_key = is.of_key;
+  seq = is.seq;
+  entry = is.entry;
+  first = λ other among of_key.
+      ⊎_elim
+      (λ before. older other before of_key)
+      (λ (same : one ≡ other). subst (λ (c : Counted). IsNoNewer (sequence_of c.item, c.number, c.at) (rank newest)) same (rank-of newest key one _ is (IsNoNewer-same _)))
+      (Contains-push_cases counted one other among);
+}
+
+-- the kept one stays the newest
+newest-kept : (counted : List Counted) (one : Counted) (key : List ℕ) (kept newest : Newest) → IsRecordOf newest key one → IsNewestIn counted key kept → IsNoNewer (rank newest) (rank kept) → IsNewestIn (counted ++ one ∷ []) key kept
+newest-kept counted one key kept newest more is older = record {
+  item = is.item;
+  among = Contains-append_left counted (one ∷ []) _ is.among;
+  of_key = is.of_key;
+  seq = is.seq;
+  entry = is.entry;
+  first = λ other among of_key.
+      ⊎_elim
+      (λ before. is.first other before of_key)
+      (λ (same : one ≡ other). subst (λ (c : Counted). IsNoNewer (sequence_of c.item, c.number, c.at) (rank kept)) same (rank-of newest key one _ more older))
+      (Contains-push_cases counted one other among);
+}
+
+pub newest-same : (counted : List Counted) (one : Counted) (key : List ℕ) (newest : Newest) (found : Option Newest) → IsRecordOf newest key one → IsNewestOf counted key found → IsNewestIn (counted ++ one ∷ []) key (newer_with found newest)
+newest-same counted one key newest None more none = newest-more counted one key newest more (λ other among of_key. absurd (none other among of_key))
+newest-same counted one key newest (Some kept) more is = by-test (is_newer newest kept) refl
+  where
+    by-test : (b : Bool) → is_newer newest kept ≡ b → IsNewestIn (counted ++ one ∷ []) key (cond b newest kept)
+    by-test true h = newest-more counted one key newest more (λ other among of_key. IsNoNewer-trans _ _ _ (is.first other among of_key) (newer-true newest kept h))
+    by-test false h = newest-kept counted one key kept newest more is (newer-false newest kept h)
+
+-- the table
+
+-- of no items
+pub stands-new : (table : Table) → table.records.items ≡ [] → table.mark ≡ 0 → StandsForItems table []
+unfolding IsDistinct
+stands-new table items mark = record {
+  distinct = rw items tt;
+  newest = λ key. rw items (λ other among. absurd (omega (arith, among.1)));
+  above = λ other key among. absurd (omega (arith, among.1));
+  bound = λ n a m among. absurd (omega (arith, among.1));
+  reached = inl mark;
+}
+
+-- of one record more
+pub stands-record : (table new : Table) (counted : List Counted) (one : Counted) (key : List ℕ) (newest : Newest)
+    → StandsForItems table counted
+    → IsRecordOf newest key one
+    → new.records.items ≡ noted key newest table.records.items
+    → new.mark ≡ table.mark
+    → sequence_of one.item < new.next
+    → table.next ≤ new.next
+    → StandsForItems new (counted ++ one ∷ [])
+stands-record table new counted one key newest stands is items mark above later = record {
+  distinct = rw items (distinct-noted key newest table.records.items stands.distinct);
+  newest = λ q. rw items (by-test q (bytes_eq q key) refl);
+  above = λ other q among of_key.
+      ⊎_elim
+      (λ before. let less = stands.above other q before of_key in omega (arith, less, later))
+      (λ (same : one ≡ other). subst (λ (c : Counted). sequence_of c.item < new.next) same above)
+      (Contains-push_cases counted one other among);
+  bound = λ n a m among.
+      ⊎_elim
+      (λ before. rw mark (stands.bound n a m before))
+      (λ (same : one ≡ record { number = n; at = a; item = end m }).
+      let none : None ≡ Some key = sym (ap (λ (c : Counted). key_of c.item) same) ∙ is.of_key in
+      absurd (cc))
+      (Contains-push_cases counted one _ among);
+  reached = ⊎_elim (λ none. inl (mark ∙ none)) (λ some. inr (some.0, some.1, rw mark (Contains-append_left counted (one ∷ []) _ some.2))) stands.reached;
+}
+  where
+    by-test : (q : List ℕ) (b : Bool) → bytes_eq q key ≡ b → IsNewestOf (counted ++ one ∷ []) q (lookup (bytes_eq q) (noted key newest table.records.items))
+    by-test q true same =
+        let the : key ≡ q = sym (same-key q key same) in
+        let here : IsNewestOf (counted ++ one ∷ []) key (lookup (bytes_eq key) (noted key newest table.records.items)) =
+        subst (IsNewestOf (counted ++ one ∷ []) key) (sym (lookup-noted key newest table.records.items))
+        (newest-same counted one key newest _ is (stands.newest key))
+        in
+        subst (λ k. IsNewestOf (counted ++ one ∷ []) k (lookup (bytes_eq k) (noted key newest table.records.items))) the here
+    by-test q false differs =
+        let apart : key_of one.item ≡ Some q → ⊥ = λ of_key.
+        let both : Some key ≡ Some q = sym is.of_key ∙ of_key in
+        let the : key ≡ q = cc in
+        let there : true ≡ false = sym (key-same q) ∙ subst (λ k. bytes_eq q k ≡ false) the differs in
+        cc
+        in
+        subst (IsNewestOf (counted ++ one ∷ []) q) (sym (lookup-noted-other q key newest table.records.items differs))
+        (newest-other counted one q _ apart (stands.newest q))
+
+-- of one end more
+pub stands-end : (table new : Table) (counted : List Counted) (n a moment : ℕ)
+    → StandsForItems table counted
+    → new.records.items ≡ table.records.items
+    → new.next ≡ table.next
+    → table.mark ≤ new.mark
+    → moment ≤ new.mark
+    → (new.mark ≡ table.mark) ⊎ (new.mark ≡ moment)
+    → StandsForItems new (counted ++ record { number = n; at = a; item = end moment } ∷ [])
+stands-end table new counted n a moment stands items next later above either = record {
+  distinct = rw items stands.distinct;
+  newest = λ q. rw items (newest-other counted one q _ (λ of_key. cc) (stands.newest q));
+  above = λ other q among of_key.
+      ⊎_elim
+      (λ before. rw next (stands.above other q before of_key))
+      (λ (same : one ≡ other). let none : None ≡ Some q = ap (λ (c : Counted). key_of c.item) same ∙ of_key in absurd (cc))
+      (Contains-push_cases counted one other among);
+  bound = λ n' a' m among.
+      ⊎_elim
+      (λ before. let less = stands.bound n' a' m before in omega (arith, less, later))
+      (λ (same : one ≡ record { number = n'; at = a'; item = end m }). let m_is : moment ≡ m = ends-same moment m (ap (λ (c : Counted). c.item) same) in omega (arith, m_is, above))
+      (Contains-push_cases counted one _ among);
+  reached = ⊎_elim (λ kept. old kept stands.reached) (λ new_one. inr (n, a, rw new_one (Contains-push counted one))) either;
+}
+  where
+    one : Counted
+    one = record { number = n; at = a; item = end moment }
+
+    ends-same : (x y : ℕ) → end x ≡ end y → x ≡ y
+    ends-same x y same = cc
+
+    old : new.mark ≡ table.mark → (table.mark ≡ 0) ⊎ ((n' : ℕ) × (a' : ℕ) × Contains counted (record { number = n'; at = a'; item = end table.mark }))
+        → (new.mark ≡ 0) ⊎ ((n' : ℕ) × (a' : ℕ) × Contains (counted ++ one ∷ []) (record { number = n'; at = a'; item = end new.mark }))
+    old kept (inl none) = inl (kept ∙ none)
+    old kept (inr some) = inr (some.0, some.1, rw kept (Contains-append_left counted (one ∷ []) _ some.2))
+
+-- what a call did that answered Ok
+
+pub ok-then : {T E : Type 0} (answer : Result T E) (P Q : Type 0) → OnOk answer P → (P → Q) → OnOk answer Q
+ok-then (Ok value) P Q is goes = goes is
+ok-then (Err fault) P Q is goes = tt
+
+-- a record is counted, and then noted
+pub takes-record : {T E : Type 0} (answer : Result T E) (table mid new : Table) (counted : List Counted) (one : Counted) (key : List ℕ) (newest : Newest)
+    → StandsForItems table counted
+    → IsRecordOf newest key one
+    → mid.records ≡ table.records
+    → mid.mark ≡ table.mark
+    → sequence_of one.item < mid.next
+    → table.next ≤ mid.next
+    → new.mark ≡ mid.mark
+    → new.next ≡ mid.next
+    → OnOk answer (new.records.items ≡ noted key newest mid.records.items)
+    → OnOk answer (StandsForItems new (counted ++ one ∷ []))
+takes-record answer table mid new counted one key newest stands is records mark above later same_mark same_next noted_ok =
+    ok-then answer _ _ noted_ok
+    (λ items. stands-record table new counted one key newest stands is
+    (items ∙ ap (λ v. noted key newest v.items) records)
+    (same_mark ∙ mark)
+    (omega (arith, above, same_next))
+    (omega (arith, later, same_next)))
