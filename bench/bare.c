@@ -35,8 +35,12 @@ static double processor_seconds(const struct rusage *used) {
            (used->ru_utime.tv_usec + used->ru_stime.tv_usec) / 1e6;
 }
 
-static void write_at(int file, const void *bytes, size_t count, off_t at) {
+static void put_bytes(int file, const void *bytes, size_t count, off_t at) {
     need(pwrite(file, bytes, count, at) == (ssize_t)count, "write");
+}
+
+static void write_at(int file, const void *bytes, size_t count, off_t at) {
+    put_bytes(file, bytes, count, at);
     need(fdatasync(file) == 0, "sync");
 }
 
@@ -88,7 +92,11 @@ static void loop(char **words) {
     off_t gate = 0;
     for (uint64_t number = 1; number <= puts; number++) {
         size_t count = spell_frame(frame, number, moment, keys, length);
-        write_at(file, frame, count, gate + 1);
+        size_t version = number == 1, record = count - 10;
+        if (version)
+            put_bytes(file, frame, 1, gate + 1);
+        put_bytes(file, frame + version, record - version, gate + 1 + version);
+        write_at(file, frame + record, 10, gate + 1 + record);
         write_at(file, "\1", 1, gate);
         gate += count;
     }

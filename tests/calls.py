@@ -75,29 +75,34 @@ def shown_call(call, folder):
 
 
 def test_calls_of_puts(folder):
-    """The data file is made and opened once, and a put costs two writes and two syncs, the gate's behind the frame's."""
+    """The data file is made and opened once, and a put costs three writes and two syncs, the
+    gate's behind the frame's; the first put writes the version byte besides."""
     if not shutil.which("strace"):
         raise Skipped("there is no strace")
     calls = calls_of(folder, b"put a b\nput c d\n")
     check_names(folder, [FIRST_FILE])
     end = "00" + "00000000000003e8" + "00"
-    frames = [
-        "01" + "01" + "0000000000000001" + "f" * 16 + "0001" + "00000001" + "61" + "62" + end,
-        "01" + "0000000000000002" + "f" * 16 + "0001" + "00000001" + "63" + "64" + end,
+    records = [
+        "01" + "0000000000000001" + "f" * 16 + "0001" + "00000001" + "61" + "62",
+        "01" + "0000000000000002" + "f" * 16 + "0001" + "00000001" + "63" + "64",
     ]
     wanted = [
+        "open folder",
+        "sync folder",
         r"say b'opened 1000\n'",
         f"make {FIRST_FILE}",
         f"write 00 at 0 of {FIRST_FILE}",
         f"sync {FIRST_FILE}",
-        "open folder",
         "sync folder",
-        f"write {frames[0]} at 1 of {FIRST_FILE}",
+        f"write 01 at 1 of {FIRST_FILE}",
+        f"write {records[0]} at 2 of {FIRST_FILE}",
+        f"write {end} at 27 of {FIRST_FILE}",
         f"sync {FIRST_FILE}",
         f"write 01 at 0 of {FIRST_FILE}",
         f"sync {FIRST_FILE}",
         r"say b'ok\n'",
-        f"write {frames[1]} at 37 of {FIRST_FILE}",
+        f"write {records[1]} at 37 of {FIRST_FILE}",
+        f"write {end} at 62 of {FIRST_FILE}",
         f"sync {FIRST_FILE}",
         f"write 01 at 36 of {FIRST_FILE}",
         f"sync {FIRST_FILE}",

@@ -17,7 +17,11 @@ REPLIES = {
     b"put a b": "ok",
     b"put a ttl": "ok",
     b"put " + LONG_KEY + b" " + LONG_VALUE: "ok",
-    b"get a": "refused syntax",
+    b"get nothing": "none",
+    b"get": "refused syntax",
+    b"get a b": "refused syntax",
+    b"get ": "refused syntax",
+    b"get %": "refused syntax",
     b"put": "refused syntax",
     b"put a": "refused syntax",
     b"put a ": "refused syntax",
@@ -39,6 +43,18 @@ REPLIES = {
     b"put a " + LONG_VALUE + b"b": "refused syntax",
     OVERLONG: "refused syntax",
 }
+
+# Files that aren't in their grammar, and what is said of them.
+DAMAGES = [
+    ("01 01 01 00 00", "2 cut"),
+    ("01 02", "1 version"),
+    ("01 01", "2 cut"),
+    ("01 01 03", "2 tag"),
+    ("01 01 00 00000000000003e8", "11 cut"),
+    ("01 01 00 2000000000000000 00", "2 moment"),
+]
+
+DAMAGED, SPENT = 4, 9
 
 # The bytes of the first file after `put a b`.
 ONE_PUT = bytes.fromhex(
@@ -80,8 +96,57 @@ def test_last_line_without_end(folder):
 
 
 def test_first_lines(folder):
-    """A put is done, and the lines that aren't built or aren't in the grammar are refused."""
-    check_script(folder, [b"put a b", b"get a", b"put", b"put a %41"])
+    """A put is done and read, and the lines that aren't built or aren't in the grammar are refused."""
+    said = ["opened 1000", "ok", "value b", "refused syntax", "refused syntax", "stopped"]
+    check_words(AT, folder, b"put a b\nget a\nput\nput a %41\n", DONE, said)
+    equal((folder / FIRST_FILE).read_bytes(), ONE_PUT, "the file")
+
+
+def log_name(number):
+    return f"s0-{number:010}.log"
+
+
+def test_later_session(folder):
+    """A later session starts at the mark, reads what an earlier one wrote, and writes a file of its own."""
+    (folder / log_name(1)).write_bytes(ONE_PUT)
+    check_words(["--at", "5"], folder, b"get a\n", DONE, ["opened 1000", "value b", "stopped"])
+    check_names(folder, [log_name(1)])
+    check_words(AT, folder, b"put a c\n", DONE, ["opened 1000", "ok", "stopped"])
+    second = ONE_PUT[:3] + (2).to_bytes(8, "big") + ONE_PUT[11:]
+    equal((folder / log_name(2)).read_bytes(), second.replace(b"ab", b"ac"), "the second file")
+    equal((folder / log_name(1)).read_bytes(), ONE_PUT, "the first file")
+    check_words(AT, folder, b"get a\n", DONE, ["opened 1000", "value c", "stopped"])
+
+
+def test_file_of_one_byte(folder):
+    """A file of one byte holds no frame, and the session's file has the next number."""
+    (folder / log_name(1)).write_bytes(b"\x01")
+    check_words(AT, folder, b"put a b\n", DONE, ["opened 1000", "ok", "stopped"])
+    equal((folder / log_name(1)).read_bytes(), b"\x01", "the first file")
+    equal((folder / log_name(2)).read_bytes(), ONE_PUT, "the second file")
+
+
+def test_closed_gate(folder):
+    """What stands behind a closed gate isn't read."""
+    (folder / log_name(1)).write_bytes(b"\x00" + ONE_PUT[1:])
+    check_words(AT, folder, b"get a\n", DONE, ["opened 1000", "none", "stopped"])
+
+
+def test_damage(folder):
+    """A damaged file is named with the offset and the kind, and stays as it is."""
+    for number, (found, said) in enumerate(DAMAGES):
+        place = folder / str(number)
+        place.mkdir()
+        (place / log_name(1)).write_bytes(bytes.fromhex(found))
+        check_words(AT, place, b"put a b\n", DAMAGED, [f"damaged {log_name(1)} {said}"])
+        check_names(place, [log_name(1)])
+        equal((place / log_name(1)).read_bytes(), bytes.fromhex(found), "the file")
+
+
+def test_last_number(folder):
+    """Where the last file number is taken, no put is done."""
+    (folder / log_name(4294967294)).write_bytes(b"\x00")
+    check_words(AT, folder, b"put a b\n", SPENT, ["opened 1000"])
 
 
 def test_each_line(folder):

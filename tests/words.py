@@ -56,9 +56,6 @@ MOMENTS = {
 
 # Files that a folder may not have yet, each alone.
 FILES = [
-    FIRST_FILE,
-    "s255-4294967294.log",
-    "s7-0000000001.log",
     "s0.tree",
     "s255.tree",
     "base0.dat",

@@ -1,2 +1,3 @@
 mod Pending
+mod Sessions
 mod Taking

@@ -120,3 +120,7 @@ pub record ReadCause {T : Type 0} (before after : ℕ) (result : Result T ReadFa
   pub ok : OnOk result (after ≡ before)
   pub memory : IsErrOf result Memory → after ≡ before
   pub later : before ≤ after
+
+-- how many units the lines took that were taken so far
+abbrev pub units_taken : LineReader → ℕ
+units_taken reader = reader.units

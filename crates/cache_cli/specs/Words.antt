@@ -1,6 +1,8 @@
 -- The words that a run is started with.
 use Rattle.std.specs.Prelude.{ℕ, ◌+◌, ◌-◌, ◌*◌, ◌^◌, ◌&&◌, Bool, List, [], ◌∷◌, length, Option, Some, None, if◌then◌else◌, nat_le, nat_lt, codes}
-use Rattle.std.specs.Str.{bytes_eq, all_ascii_digits}
+use Rattle.std.specs.Str.{bytes_eq}
+use Rattle.std.specs.List.{list_all}
+use Rattle.std.specs.Char.{is_ascii_digit}
 
 -- a number, and decimal digits behind it
 abbrev pub read_on : ℕ → List ℕ → ℕ
@@ -14,7 +16,7 @@ number_of digits = read_on 0 digits
 -- one to nineteen decimal digits of a number below 2^61
 abbrev pub is_moment : List ℕ → Bool
 is_moment digits =
-    nat_le 1 (length digits) && nat_le (length digits) 19 && all_ascii_digits digits && nat_lt (number_of digits) (2 ^ 61)
+    nat_le 1 (length digits) && nat_le (length digits) 19 && list_all is_ascii_digit digits && nat_lt (number_of digits) (2 ^ 61)
 
 -- the moment that the words give, where they are just `--at` and a moment
 abbrev pub words_moment : List (List ℕ) → Option ℕ

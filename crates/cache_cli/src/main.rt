@@ -7,8 +7,10 @@ mod folder_host;
 mod handles;
 mod line;
 mod line_reader;
+mod replies;
 mod serve;
 mod stdin_source;
+mod talk;
 mod words;
 
 use cache_model::Status;

@@ -1,6 +1,7 @@
 // The words that a run is started with.
-ghost use Rattle.std.specs.Prelude.{◌≡◌, ◌^◌, ◌<◌, ◌≤◌, [], ◌∷◌, length, map, string_bytes, IfSome, Some, None, if◌then◌else◌};
-ghost use Rattle.std.specs.Str.{all_ascii_digits};
+ghost use Rattle.std.specs.Prelude.{◌≡◌, ◌^◌, ◌<◌, ◌≤◌, [], ◌∷◌, length, map, string_bytes, IfSome, true, Some, None, if◌then◌else◌};
+ghost use Rattle.std.specs.List.{list_all};
+ghost use Rattle.std.specs.Char.{is_ascii_digit};
 ghost use Rattle.cache_cli.specs.Words.{words_moment, is_moment, number_of};
 
 /// Moments are below this one.
@@ -22,14 +23,9 @@ pub fn moment_of(words: &[String]) -> Option<u64>
 
 // Whether each byte is a decimal digit.
 fn are_digits(text: &str) -> bool
-    ensures { result ≡ all_ascii_digits text.now }
+    ensures { result ≡ list_all is_ascii_digit text.now }
 {
-    for byte in text.as_bytes() {
-        if !byte.is_ascii_digit() {
-            return false;
-        }
-    }
-    true
+    text.as_bytes().iter().all(|byte| byte.is_ascii_digit())
 }
 
 // The moment of some digits, None where they are none.
@@ -40,8 +36,16 @@ fn number_of(digits: &str) -> Option<u64>
     if digits.is_empty() || digits.len() > DIGITS || !are_digits(digits) {
         return None;
     }
-    match digits.parse::<u64>() {
-        Ok(moment) if moment < MOMENTS => Some(moment),
-        _ => None,
-    }
+    let moment = value_of(digits);
+    if moment < MOMENTS { Some(moment) } else { None }
+}
+
+// The number of one to nineteen decimal digits.
+fn value_of(digits: &str) -> u64
+    requires digits { list_all is_ascii_digit digits.now ≡ true }
+    requires some { 1 ≤ length digits.now }
+    requires short { length digits.now ≤ 19 }
+    ensures { result ≡ number_of digits.now }
+{
+    digits.parse::<u64>().unwrap_or(0)
 }

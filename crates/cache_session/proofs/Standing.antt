@@ -22,7 +22,7 @@ use Rattle.data_file.proofs.Frame.{counted_now, stands_still, stands_said}
 use Rattle.cache_session.specs.declared.session.Session.{Session}
 use Rattle.cache_session.specs.Session.{IsLogOf, IsFileOf, IsLogStanding, IsAboveRecords, SessionStands, after_put, ReadsOneOf, spent_in_file, spent_by}
 use Rattle.cache_session.proofs.Counting.{Counts, SameCounted, with_frame, new-counted, same-counted, more-counted}
-use Rattle.cache_session.proofs.Reading.{reads-same, above-same, reads-more, above-more}
+use Rattle.cache_session.proofs.Images.{reads-same, above-same, reads-more, above-more}
 
 -- the file in an image
 

@@ -1,0 +1,11 @@
+-- What saying does to a host.
+use Rattle.std.specs.Prelude.{ℕ, List, Result, Ok, Err}
+use Rattle.cache_model.specs.declared.replies.Status.{Status}
+use Rattle.cache_disk.specs.declared.host.HostFault.{HostFault}
+use Rattle.cache_disk.specs.State.{HostState}
+use Rattle.cache_disk.specs.Calls.{Said}
+
+-- the bytes were said, or the output failed or wanted memory
+abbrev pub SaidBy : List ℕ → HostState → HostState → Result (Unit {0}) Status → Type 0
+SaidBy bytes from to (Ok done) = Said bytes from to (Ok tt)
+SaidBy bytes from to (Err ended) = (fault : HostFault) × Said bytes from to (Err fault)
