@@ -21,8 +21,7 @@ fn hex_digit(n: u8) -> u8
 }
 
 // Adds one byte of a token: itself, or a percent sign and two hexadecimal digits.
-fn push_byte(out: &mut Vec<u8>, byte: u8) -> Result<(), AllocError>
-{
+fn push_byte(out: &mut Vec<u8>, byte: u8) -> Result<(), AllocError> {
     if is_plain_byte(byte) {
         return Ok(out.push(byte)?);
     }
@@ -30,8 +29,7 @@ fn push_byte(out: &mut Vec<u8>, byte: u8) -> Result<(), AllocError>
 }
 
 // Adds some bytes as parts of a token.
-fn push_bytes(out: &mut Vec<u8>, bytes: &[u8]) -> Result<(), AllocError>
-{
+fn push_bytes(out: &mut Vec<u8>, bytes: &[u8]) -> Result<(), AllocError> {
     for byte in bytes {
         push_byte(out, *byte)?;
     }
@@ -39,8 +37,7 @@ fn push_bytes(out: &mut Vec<u8>, bytes: &[u8]) -> Result<(), AllocError>
 }
 
 // Adds some bytes as a token.
-fn push_token(out: &mut Vec<u8>, bytes: &[u8]) -> Result<(), AllocError>
-{
+fn push_token(out: &mut Vec<u8>, bytes: &[u8]) -> Result<(), AllocError> {
     match bytes {
         [] => out.extend_from_slice(b"%."),
         [_, ..] => push_bytes(out, bytes),
@@ -48,8 +45,7 @@ fn push_token(out: &mut Vec<u8>, bytes: &[u8]) -> Result<(), AllocError>
 }
 
 // The line of a value that was found.
-fn value_line(alloc: Global, value: &[u8]) -> Result<Vec<u8>, AllocError>
-{
+fn value_line(alloc: Global, value: &[u8]) -> Result<Vec<u8>, AllocError> {
     let mut line = Vec::from_slice(alloc, b"value ")?;
     push_token(&mut line, value)?;
     line.push(b'\n')?;
@@ -57,8 +53,7 @@ fn value_line(alloc: Global, value: &[u8]) -> Result<Vec<u8>, AllocError>
 }
 
 /// The line of the reply to a read.
-pub fn read_reply_line(alloc: Global, reply: &Reply) -> Result<Vec<u8>, AllocError>
-{
+pub fn read_reply_line(alloc: Global, reply: &Reply) -> Result<Vec<u8>, AllocError> {
     match reply {
         Reply::Found(value) => value_line(alloc, value.bytes()),
         _ => Vec::from_slice(alloc, b"none\n"),

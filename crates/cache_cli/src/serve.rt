@@ -13,14 +13,24 @@ use cache_session::{Session, StartFault};
 use std::alloc::Global;
 
 /// Runs the store on a script: the whole program, over any host and source. `words` are those behind the directory.
-pub fn serve<H: Host, S: Source>(alloc: Global, words: &[String], host: &mut H, script: &mut S) -> Status {
+pub fn serve<H: Host, S: Source>(
+    alloc: Global,
+    words: &[String],
+    host: &mut H,
+    script: &mut S,
+) -> Status {
     match run(alloc, words, host, script) {
         Ok(()) => Status::Done,
         Err(status) => status,
     }
 }
 
-fn run<H: Host, S: Source>(alloc: Global, words: &[String], host: &mut H, script: &mut S) -> Result<(), Status> {
+fn run<H: Host, S: Source>(
+    alloc: Global,
+    words: &[String],
+    host: &mut H,
+    script: &mut S,
+) -> Result<(), Status> {
     let Some(given) = moment_of(words) else {
         return Err(Status::Usage);
     };
@@ -48,7 +58,9 @@ fn open<H: Host>(alloc: Global, host: &mut H, given: u64) -> Result<Session, Sta
         Err(StartFault::Store(StoreFault::Failed)) => Err(Status::DiskFailed),
         Err(StartFault::Store(StoreFault::Memory)) => Err(Status::NoMemory),
         Err(StartFault::Store(StoreFault::Spent(_))) => Err(Status::Spent),
-        Err(StartFault::Store(StoreFault::Damaged(damage))) => Err(tell_damage(alloc, host, &damage)),
+        Err(StartFault::Store(StoreFault::Damaged(damage))) => Err(tell_damage(
+            alloc, host, &damage,
+        )),
     }
 }
 

@@ -83,7 +83,12 @@ fn answer_next<H: Host, S: Source>(
 }
 
 // Answers one line.
-fn respond<H: Host>(alloc: Global, session: &mut Session, host: &mut H, line: &[u8]) -> Result<(), Status>
+fn respond<H: Host>(
+    alloc: Global,
+    session: &mut Session,
+    host: &mut H,
+    line: &[u8],
+) -> Result<(), Status>
     requires sound { is_session_spoilt session.old ≡ false }
     requires usable { IsUsable session.old }
     requires stands { IsTrue H.tells → IsSessionStanding session.old (H.state host.old) }
@@ -99,7 +104,12 @@ fn respond<H: Host>(alloc: Global, session: &mut Session, host: &mut H, line: &[
 }
 
 // Does the command of a line, and answers it.
-fn answer<H: Host>(alloc: Global, session: &mut Session, host: &mut H, command: Command) -> Result<(), Status>
+fn answer<H: Host>(
+    alloc: Global,
+    session: &mut Session,
+    host: &mut H,
+    command: Command,
+) -> Result<(), Status>
     requires sound { is_session_spoilt session.old ≡ false }
     requires usable { IsUsable session.old }
     requires built { IsBuilt command }
@@ -116,7 +126,12 @@ fn answer<H: Host>(alloc: Global, session: &mut Session, host: &mut H, command: 
 }
 
 // Puts an entry that never expires, and answers it.
-fn answer_put<H: Host>(session: &mut Session, host: &mut H, key: Key, value: Value) -> Result<(), Status>
+fn answer_put<H: Host>(
+    session: &mut Session,
+    host: &mut H,
+    key: Key,
+    value: Value,
+) -> Result<(), Status>
     requires sound { is_session_spoilt session.old ≡ false }
     requires usable { IsUsable session.old }
     requires stands { IsTrue H.tells → IsSessionStanding session.old (H.state host.old) }
@@ -145,7 +160,12 @@ fn refuse_memory<H: Host>(session: &Session, host: &mut H) -> Result<(), Status>
 }
 
 // Reads a key, and answers it.
-fn answer_get<H: Host>(alloc: Global, session: &Session, host: &mut H, key: &Key) -> Result<(), Status>
+fn answer_get<H: Host>(
+    alloc: Global,
+    session: &Session,
+    host: &mut H,
+    key: &Key,
+) -> Result<(), Status>
     ensures { IsTrue H.tells → IsSessionStanding session.now (H.state host.old) → IsSessionStanding session.now (H.state host.new) }
 {
     let Ok(reply) = session.get(key) else {
