@@ -1,11 +1,11 @@
 -- Reading on: what a run of reads does to a window.
-use Rattle.std.proofs.Common.{◌≡◌, ℕ, ◌+◌, ◌-◌, ◌≤◌, Bool, List, length, take, drop, ◌++◌, sym, ap, ◌∙◌, arith, IsTrue, subst, inl, inr, add_assoc, min}
+use Rattle.std.proofs.Common.{◌≡◌, ℕ, ◌+◌, ◌-◌, ◌≤◌, Bool, List, length, take, drop, ◌++◌, sym, ap, ◌∙◌, arith, IsTrue, subst}
 use Rattle.std.proofs.lemmas.List.{take-take, take_at, length-take-le, length-drop, length-append, drop-drop}
 use Rattle.std.proofs.Math.Seq.{take-add}
 use Rattle.std.specs.Prelude.{Ok}
 use Rattle.cache_model.specs.declared.files.FileName.{FileName}
 use Rattle.cache_model.specs.Files.{bytes_in}
-use Rattle.cache_disk.specs.State.{HostState, Stands, Asks}
+use Rattle.cache_disk.specs.State.{HostState, Stands}
 use Rattle.cache_disk.specs.Calls.{Read}
 use Rattle.data_file.specs.declared.window.Window.{Window}
 use Rattle.data_file.specs.Windows.{known_to, ShowsFile, AsksFor}
