@@ -1,6 +1,5 @@
 -- What is said: the text of each reply and of each refusal.
-use Rattle.std.specs.Prelude.{ℕ, ◌/◌, ◌%◌, false, List, [], ◌∷◌, ◌++◌, flat_map, if◌then◌else◌, decimal, codes}
-use Rattle.std.specs.Fmt.{digits}
+use Rattle.std.specs.Prelude.{ℕ, ◌+◌, ◌/◌, ◌%◌, List, [], ◌∷◌, ◌++◌, flat_map, if◌then◌else◌, nat_lt, decimal, codes}
 use Rattle.cache_model.specs.declared.replies.Turned.{Turned}
 use Rattle.cache_model.specs.declared.replies.Turned.TheVariants as turned
 use Rattle.cache_model.specs.declared.replies.Figures.{Figures}
@@ -18,9 +17,13 @@ pub data Response : Type 0 where
   replies : (reply : Reply) → Response
   refused : (refusal : Refusal) → Response
 
+-- a hexadecimal digit: 0 to 9, then a to f
+abbrev pub hex_digit : ℕ → ℕ
+hex_digit n = if nat_lt n 10 then 48 + n else 87 + n
+
 -- a byte within a token: itself, or a percent sign and two hexadecimal digits
 abbrev pub byte_text : ℕ → List ℕ
-byte_text byte = if is_plain_byte byte then byte ∷ [] else 37 ∷ digits 16 false (byte / 16) ++ digits 16 false (byte % 16)
+byte_text byte = if is_plain_byte byte then byte ∷ [] else 37 ∷ hex_digit (byte / 16) ∷ hex_digit (byte % 16) ∷ []
 
 -- some bytes as a token; `%.` stands for none
 abbrev pub token_text : List ℕ → List ℕ
