@@ -1,17 +1,18 @@
 -- The newest record of each key, over plain lists.
-use Rattle.std.proofs.Common.{◌≡◌, ℕ, suc, ◌+◌, ◌<◌, ◌≤◌, ◌==◌, ◌⊎◌, inl, inr, ⊎_elim, Bool, true, false, cond, List, [], ◌∷◌, ◌++◌, length, map, get_or, set, Option, Some, None, Contains, nat_lt, Result, Ok, Err, OnOk, refl, sym, ap, subst, ◌∙◌, arith, add-one}
+use Rattle.std.proofs.Common.{◌≡◌, ℕ, suc, ◌+◌, ◌<◌, ◌≤◌, ◌==◌, ◌⊎◌, inl, inr, ⊎_elim, Bool, true, false, cond, List, [], ◌∷◌, ◌++◌, length, max, get_or, set, Option, Some, None, Contains, nat_lt, Result, Ok, Err, OnOk, refl, sym, ap, subst, ◌∙◌, arith}
 use Rattle.std.specs.Prelude.{if◌then◌else◌}
 use Rattle.std.specs.List.{IsDistinct, AllByRecursion}
 use Rattle.std.specs.Map.{lookup, keys_of}
 use Rattle.std.specs.Str.{bytes_eq}
+use Rattle.std.proofs.lemmas.Bool.{cases_lt}
 use Rattle.std.proofs.lemmas.Bool.Decides.{nat_tests}
 use Rattle.std.proofs.lemmas.Slice.Eq.{bytes_eq-Decides}
 use Rattle.std.proofs.lemmas.List.Elements.{Contains-append_left, Contains-push, Contains-push_cases}
-use Rattle.cache_model.specs.Items.{Item, end}
+use Rattle.cache_model.specs.Items.{end}
 use Rattle.cache_model.specs.Images.{key_of, sequence_of, entry_by, IsNoNewer}
 use Rattle.cache_session.specs.declared.newest.Newest.{Newest}
 use Rattle.cache_session.specs.declared.newest.Table.{Table}
-use Rattle.cache_session.specs.Opening.{is_newer, newer_of, Records, place_of, noted, Counted, IsNewestIn, IsNewestOf, StandsForItems}
+use Rattle.cache_session.specs.Opening.{is_newer, newer_of, Records, place_of, noted, Counted, IsNewestIn, IsNewestOf, IsReachedBy, StandsForItems}
 
 -- the order of records
 
@@ -257,13 +258,23 @@ newest-same counted one key newest (Some kept) more is = by-test (is_newer newes
 
 -- the table
 
+-- a greatest number is one of both
+max-either : (a b : ℕ) → (max a b ≡ a) ⊎ (max a b ≡ b)
+max-either a b = ⊎_elim (λ lt. inr (omega (arith, lt))) (λ le. inl (omega (arith, le))) (cases_lt a b)
+
+-- the next number is the same with one item more
+next-kept : (table new : Table) (counted : List Counted) (one : Counted) → new.next ≡ table.next → IsReachedBy counted table.next → IsReachedBy (counted ++ one ∷ []) new.next
+next-kept table new counted one kept (inl first) = inl (kept ∙ first)
+next-kept table new counted one kept (inr some) = inr (some.0, some.1, Contains-append_left counted (one ∷ []) some.0 some.2, some.3, kept ∙ some.4)
+
 -- of no items
-pub stands-new : (table : Table) → table.records.items ≡ [] → table.mark ≡ 0 → StandsForItems table []
+pub stands-new : (table : Table) → table.records.items ≡ [] → table.mark ≡ 0 → table.next ≡ 1 → StandsForItems table []
 unfolding IsDistinct
-stands-new table items mark = record {
+stands-new table items mark next = record {
   distinct = rw items tt;
   newest = λ key. rw items (λ other among. absurd (omega (arith, among.1)));
   above = λ other key among. absurd (omega (arith, among.1));
+  reached_next = inl next;
   bound = λ n a m among. absurd (omega (arith, among.1));
   reached = inl mark;
 }
@@ -274,16 +285,15 @@ pub stands-record : (table new : Table) (counted : List Counted) (one : Counted)
     → IsRecordOf newest key one
     → new.records.items ≡ noted key newest table.records.items
     → new.mark ≡ table.mark
-    → sequence_of one.item < new.next
-    → table.next ≤ new.next
+    → new.next ≡ max table.next (sequence_of one.item + 1)
     → StandsForItems new (counted ++ one ∷ [])
-stands-record table new counted one key newest stands is items mark above later = record {
+stands-record table new counted one key newest stands is items mark next = record {
   distinct = rw items (distinct-noted key newest table.records.items stands.distinct);
   newest = λ q. rw items (by-test q (bytes_eq q key) refl);
   above = λ other q among of_key.
       ⊎_elim
-      (λ before. let less = stands.above other q before of_key in omega (arith, less, later))
-      (λ (same : one ≡ other). subst (λ (c : Counted). sequence_of c.item < new.next) same above)
+      (λ before. let less = stands.above other q before of_key in omega (arith, less, next))
+      (λ (same : one ≡ other). subst (λ (c : Counted). sequence_of c.item < new.next) same (omega (arith, next)))
       (Contains-push_cases counted one other among);
   bound = λ n a m among.
       ⊎_elim
@@ -292,6 +302,11 @@ stands-record table new counted one key newest stands is items mark above later 
       let none : None ≡ Some key = sym (ap (λ (c : Counted). key_of c.item) same) ∙ is.of_key in
       absurd (cc))
       (Contains-push_cases counted one _ among);
+  reached_next =
+      ⊎_elim
+      (λ (kept : max table.next (sequence_of one.item + 1) ≡ table.next). next-kept table new counted one (next ∙ kept) stands.reached_next)
+      (λ (raised : max table.next (sequence_of one.item + 1) ≡ sequence_of one.item + 1). inr (one, key, Contains-push counted one, is.of_key, next ∙ raised))
+      (max-either table.next (sequence_of one.item + 1));
   reached = ⊎_elim (λ none. inl (mark ∙ none)) (λ some. inr (some.0, some.1, rw mark (Contains-append_left counted (one ∷ []) _ some.2))) stands.reached;
 }
   where
@@ -335,6 +350,7 @@ stands-end table new counted n a moment stands items next later above either = r
       (λ before. let less = stands.bound n' a' m before in omega (arith, less, later))
       (λ (same : one ≡ record { number = n'; at = a'; item = end m }). let m_is : moment ≡ m = ends-same moment m (ap (λ (c : Counted). c.item) same) in omega (arith, m_is, above))
       (Contains-push_cases counted one _ among);
+  reached_next = next-kept table new counted one next stands.reached_next;
   reached = ⊎_elim (λ kept. old kept stands.reached) (λ new_one. inr (n, a, rw new_one (Contains-push counted one))) either;
 }
   where
@@ -361,16 +377,14 @@ pub takes-record : {T E : Type 0} (answer : Result T E) (table mid new : Table) 
     → IsRecordOf newest key one
     → mid.records ≡ table.records
     → mid.mark ≡ table.mark
-    → sequence_of one.item < mid.next
-    → table.next ≤ mid.next
+    → mid.next ≡ max table.next (sequence_of one.item + 1)
     → new.mark ≡ mid.mark
     → new.next ≡ mid.next
     → OnOk answer (new.records.items ≡ noted key newest mid.records.items)
     → OnOk answer (StandsForItems new (counted ++ one ∷ []))
-takes-record answer table mid new counted one key newest stands is records mark above later same_mark same_next noted_ok =
+takes-record answer table mid new counted one key newest stands is records mark next same_mark same_next noted_ok =
     ok-then answer _ _ noted_ok
     (λ items. stands-record table new counted one key newest stands is
     (items ∙ ap (λ v. noted key newest v.items) records)
     (same_mark ∙ mark)
-    (omega (arith, above, same_next))
-    (omega (arith, later, same_next)))
+    (same_next ∙ next))

@@ -1,33 +1,28 @@
 -- From the items that were taken to what the files, and every image, read as.
-use Rattle.std.proofs.Common.{◌≡◌, ℕ, ◌<◌, ◌≤◌, ◌⊎◌, inl, inr, ⊎_elim, max, true, false, List, [], ◌∷◌, ◌++◌, map, length, Result, Ok, Err, IfOk, OnOk, Option, Some, None, Contains, All, IsSome, take, slice_index, slice_index_or, refl, sym, ap, subst, ◌∙◌, arith}
+use Rattle.std.proofs.Common.{◌≡◌, ℕ, ◌-◌, ◌<◌, ◌≤◌, ◌⊎◌, inl, inr, ⊎_elim, true, false, List, [], length, Result, Ok, Err, IfOk, OnOk, Option, Some, None, Contains, IsSome, take, slice_index, slice_index_or, refl, sym, ap, subst, ◌∙◌, arith}
 use Rattle.std.specs.Prelude.{◌↔◌, unwrap_or}
-use Rattle.std.specs.List.{IsDistinct, flat_map}
 use Rattle.std.specs.List.Sorted.{IsNonDecreasing}
-use Rattle.std.specs.FinMap.{get}
 use Rattle.std.proofs.lemmas.Bool.{cases_lt}
 use Rattle.std.proofs.lemmas.List.{get_or-take, get_or_default, length-take-le}
-use Rattle.std.specs.Map.{lookup, keys_of}
-use Rattle.std.specs.Str.{bytes_eq}
 use Rattle.std.proofs.lemmas.List.Elements.{All-contains, Contains-get_or}
 use Rattle.cache_model.specs.declared.entries.Entry.{Entry}
-use Rattle.cache_model.specs.declared.faults.BadKind.{BadKind}
 use Rattle.cache_model.specs.declared.faults.Damage.{Damage}
 use Rattle.cache_model.specs.declared.files.FileName.{FileName}
 use Rattle.cache_model.specs.Files.{Image, file_in, bytes_in}
 use Rattle.cache_model.specs.Items.{Item, end}
 use Rattle.cache_model.specs.DataFiles.{counted_items, IsUndamaged}
 use Rattle.cache_model.specs.Plain.{Plain}
-use Rattle.cache_model.specs.Images.{log_name, key_of, sequence_of, entry_by, IsCounted, IsNewest, HasEntry, IsMarkBound, IsMark, IsSound, Reads, IsNoNewer, IsFirstDamage}
+use Rattle.cache_model.specs.Images.{log_name, IsCounted, IsNewest, HasEntry, IsMark, IsSound, Reads, IsFirstDamage}
 use Rattle.cache_session.specs.declared.newest.Newest.{Newest}
 use Rattle.cache_session.specs.declared.newest.Table.{Table}
 use Rattle.cache_disk.specs.State.{HostState, SameFiles, Stands}
 use Rattle.cache_disk.specs.Calls.{AllLeft}
 use Rattle.cache_disk.proofs.Runs.{Stands-left}
 use Rattle.cache_session.specs.declared.session.Session.{Session}
-use Rattle.cache_session.specs.Session.{IsAboveRecords, IsFileOf, Opens, SessionStands}
+use Rattle.cache_session.specs.Session.{IsAboveRecords, IsFileOf, IsNextSequence, IsNextFile}
 use Rattle.cache_session.specs.Started.{IsOpened}
-use Rattle.cache_session.specs.Opening.{Counted, counted_in, counted_of, IsNewestIn, IsNewestOf, StandsForItems, entry_in, SameLogs, AreUndamaged, IsMadeOf, IsDamageAmong, IsFirstDamageOf, IsReadFrom}
-use Rattle.cache_session.proofs.Members.{IsImageOf, IsInPartOf, among-map, map-among, among-flat_map, flat_map-among}
+use Rattle.cache_session.specs.Opening.{Counted, counted_in, counted_of, IsNewestOf, StandsForItems, entry_in, SameLogs, AreUndamaged, IsBehind, IsMadeOf, IsDamageAmong, IsFirstDamageOf, IsReadFrom}
+use Rattle.cache_session.proofs.Members.{among-map, map-among, among-flat_map, flat_map-among}
 
 -- the numbers of all data files
 abbrev pub AreAllNumbers : Image → List ℕ → Type 0
@@ -99,6 +94,20 @@ pub is-above : (files : Image) (numbers : List ℕ) (table : Table) → AreAllNu
 is-above files numbers table each stands n a item key counted of_key =
     stands.above (record { number = n; at = a; item = item }) key (is-taken files numbers n a item each counted) of_key
 
+-- one above the greatest number of a record, or 1
+pub is-next : (files : Image) (numbers : List ℕ) (table : Table) → AreAllNumbers files numbers → StandsForItems table (counted_of files numbers) → IsNextSequence files table.next
+is-next files numbers table each stands = record {
+  above = is-above files numbers table each stands;
+  reached = ⊎_elim (λ first. inl first) (λ some. inr (some.0.number, some.0.at, some.0.item, some.1, counts files numbers some.0.number some.0.at some.0.item each some.2, some.3, some.4)) stands.reached_next;
+}
+
+-- one above the greatest number of a data file, or 1
+pub is-next-file : (files : Image) (numbers : List ℕ) (file : ℕ) → AreAllNumbers files numbers → IsBehind numbers file → IsNextFile files file
+is-next-file files numbers file each behind = record {
+  above = λ n there. All-contains (λ k. k < file) numbers n behind.above ((each n).1 there);
+  reached = ⊎_elim (λ first. inl first) (λ last. inr ((each (file - 1)).0 last)) behind.reached;
+}
+
 -- each data file is undamaged
 pub is-sound : (files : Image) (numbers : List ℕ) → AreAllNumbers files numbers → AreUndamaged files numbers → IsSound files
 is-sound files numbers each undamaged n bytes there =
@@ -135,9 +144,21 @@ reads-there files image plain same reads = record {
 pub above-there : (files image : Image) (next : ℕ) → SameLogs files image → IsAboveRecords next files → IsAboveRecords next image
 above-there files image next same above n a item key counted of_key = above n a item key (counted-back files image n a item same counted) of_key
 
--- no image has a file whose number is above those of all data files
-pub absent : (files : Image) (numbers : List ℕ) (file : ℕ) → AreAllNumbers files numbers → All (λ n. n < file) numbers → file_in files (log_name file) ≡ None
-absent files numbers file each above = none (file_in files (log_name file)) (λ some. All-contains (λ n. n < file) numbers file above ((each file).1 some))
+pub next-there : (files image : Image) (next : ℕ) → SameLogs files image → IsNextSequence files next → IsNextSequence image next
+next-there files image next same is = record {
+  above = above-there files image next same is.above;
+  reached = ⊎_elim (λ first. inl first) (λ some. inr (some.0, some.1, some.2, some.3, counted-there files image some.0 some.1 some.2 same some.4, some.5, some.6)) is.reached;
+}
+
+pub next-file-there : (files image : Image) (number : ℕ) → SameLogs files image → IsNextFile files number → IsNextFile image number
+next-file-there files image number same is = record {
+  above = λ n there. is.above n (subst (λ (f : Option (List ℕ)). IsSome f) (same n) there);
+  reached = ⊎_elim (λ first. inl first) (λ last. inr (subst (λ (f : Option (List ℕ)). IsSome f) (sym (same (number - 1))) last)) is.reached;
+}
+
+-- no file has the next number yet
+pub absent : (files : Image) (file : ℕ) → IsNextFile files file → file_in files (log_name file) ≡ None
+absent files file next = none (file_in files (log_name file)) (next.above file)
   where
     none : (found : Option (List ℕ)) → (IsSome found → file < file) → found ≡ None
     none None less = refl
@@ -162,17 +183,17 @@ reads files numbers table session given file each stands undamaged made = record
 }
 
 -- The session is opened: all data files were settled, and then read.
-pub opened : (a b c : HostState) (numbers : List ℕ) (table : Table) (session : Session) (given file : ℕ)
+pub opened : (a b c : HostState) (numbers : List ℕ) (table : Table) (session : Session) (given : ℕ)
     → AreAllNumbers a.files numbers
     → SameFiles a.files b.files
     → AllLeft b (SameLogs a.files)
     → Stands b c
     → StandsForItems table (counted_of b.files numbers)
     → AreUndamaged b.files numbers
-    → IsMadeOf table given file session
-    → All (λ n. n < file) numbers
+    → IsMadeOf table given session.file session
+    → IsBehind numbers session.file
     → IsOpened a c given session
-opened a b c numbers table session given file each_a same all still stands undamaged made above = record {
+opened a b c numbers table session given each_a same all still stands undamaged made behind = record {
   plain = plain;
   opens = record {
     entries = λ key. entry-there b.files a.files key _ back (of_files.entries key);
@@ -185,13 +206,15 @@ opened a b c numbers table session given file each_a same all still stands undam
     moment = refl;
     reads = Stands-left b c (λ image. Reads image plain) still (λ image left. reads-there b.files image plain (there image left) of_files);
     numbers = Stands-left b c (λ image. IsAboveRecords session.next image) still
-        (λ image left. above-there b.files image session.next (there image left) (subst (λ n. IsAboveRecords n b.files) (sym made.next) (is-above b.files numbers table each stands)));
+        (λ image left. above-there b.files image session.next (there image left) next.above);
     file = subst (λ log. IsFileOf log session.file c []) (sym made.log) (
       refl,
       Stands-left b c (λ image. file_in image (log_name session.file) ≡ None) still
-          (λ image left. there image left session.file ∙ subst (λ n. file_in b.files (log_name n) ≡ None) (sym made.file_is) (absent b.files numbers file each above)),
+          (λ image left. there image left session.file ∙ absent b.files session.file number),
     );
   };
+  next = next-there b.files a.files session.next back next;
+  number = next-file-there b.files a.files session.file back number;
 }
   where
     plain : Plain
@@ -207,7 +230,13 @@ opened a b c numbers table session given file each_a same all still stands undam
     there image left n = all image left n ∙ sym (same (log_name n))
 
     of_files : Reads b.files plain
-    of_files = reads b.files numbers table session given file each stands undamaged made
+    of_files = reads b.files numbers table session given session.file each stands undamaged made
+
+    next : IsNextSequence b.files session.next
+    next = subst (IsNextSequence b.files) (sym made.next) (is-next b.files numbers table each stands)
+
+    number : IsNextFile b.files session.file
+    number = is-next-file b.files numbers session.file each behind
 
 pub sound-there : (files image : Image) → SameLogs files image → IsSound files → IsSound image
 sound-there files image same sound n bytes there = sound n bytes (sym (same n) ∙ there)
@@ -270,15 +299,15 @@ if-ok-on (Err fault) P Q is goes = tt
 pub read-from : (files : Image) (numbers : List ℕ) (table : Table) (given file : ℕ) (session : Session)
     → StandsForItems table (counted_of files numbers)
     → AreUndamaged files numbers
-    → All (λ n. n < file) numbers
+    → IsBehind numbers file
     → IsMadeOf table given file session
     → IsReadFrom files numbers given session
-read-from files numbers table given file session stands undamaged above made = record {
+read-from files numbers table given file session stands undamaged behind made = record {
   table = table;
   stands = stands;
   undamaged = undamaged;
   made = subst (λ n. IsMadeOf table given n session) (sym made.file_is) made;
-  above = subst (λ n. All (λ k. k < n) numbers) (sym made.file_is) above;
+  behind = subst (IsBehind numbers) (sym made.file_is) behind;
 }
 
 -- the session that was read is opened
@@ -289,7 +318,7 @@ pub opened-from : (a b c : HostState) (numbers : List ℕ) (given : ℕ) (sessio
     → Stands b c
     → IsReadFrom b.files numbers given session
     → IsOpened a c given session
-opened-from a b c numbers given session each same all still read = opened a b c numbers read.table session given session.file each same all still read.stands read.undamaged read.made read.above
+opened-from a b c numbers given session each same all still read = opened a b c numbers read.table session given each same all still read.stands read.undamaged read.made read.behind
 
 logs-back : (a b : Image) → SameFiles a b → SameLogs b a
 logs-back a b same n = sym (same (log_name n))
@@ -319,6 +348,8 @@ opened-before a b c given session same is =
         moment = is.opens.moment;
       };
       stands = is.stands;
+      next = next-there b.files a.files session.next back is.next;
+      number = next-file-there b.files a.files session.file back is.number;
     }
 
 pub damage-before : (a b : Image) (damage : Damage) → SameFiles a b → IsFirstDamageOf b damage → IsFirstDamageOf a damage

@@ -1,5 +1,5 @@
 -- What the opening of a directory keeps while it reads the data files.
-use Rattle.std.specs.Prelude.{◌≡◌, ◌⊎◌, ℕ, suc, ◌+◌, ◌<◌, ◌≤◌, ◌==◌, Bool, List, [], ◌∷◌, map, false, true, length, flat_map, take, Option, Some, None, if◌then◌else◌, nat_lt, slice_index, Contains, All, IsSome, max}
+use Rattle.std.specs.Prelude.{◌≡◌, ◌⊎◌, ℕ, suc, ◌+◌, ◌-◌, ◌<◌, ◌≤◌, ◌==◌, Bool, List, [], ◌∷◌, map, false, true, length, flat_map, take, Option, Some, None, if◌then◌else◌, nat_lt, slice_index, Contains, All, IsSome, max}
 use Rattle.std.specs.List.{IsDistinct, list_any}
 use Rattle.std.specs.FinMap.{get, insert}
 use Rattle.std.specs.Map.{lookup, keys_of}
@@ -67,11 +67,17 @@ abbrev pub IsNewestOf : List Counted → List ℕ → Option Newest → Type 0
 IsNewestOf counted key None = (other : Counted) → Contains counted other → key_of other.item ≡ Some key → ⊥
 IsNewestOf counted key (Some newest) = IsNewestIn counted key newest
 
--- The table has the newest record of each key among these items, their mark, and a number above each record's.
+-- a number is one above the sequence number of a record among these items, or 1
+abbrev pub IsReachedBy : List Counted → ℕ → Type 0
+IsReachedBy counted next = (next ≡ 1) ⊎ ((other : Counted) × (key : List ℕ) × Contains counted other × (key_of other.item ≡ Some key) × (next ≡ sequence_of other.item + 1))
+
+-- The table has the newest record of each key among these items, their mark, and the next sequence number: one above the
+-- greatest of their records, or 1.
 pub record StandsForItems (table : Table) (counted : List Counted) : Type 0 where
   pub distinct : IsDistinct bytes_eq (keys_of table.records.items)
   pub newest : (key : List ℕ) → IsNewestOf counted key (lookup (bytes_eq key) table.records.items)
   pub above : (other : Counted) (key : List ℕ) → Contains counted other → key_of other.item ≡ Some key → sequence_of other.item < table.next
+  pub reached_next : IsReachedBy counted table.next
   pub bound : (n a m : ℕ) → Contains counted (record { number = n; at = a; item = end m }) → m ≤ table.mark
   pub reached : (table.mark ≡ 0) ⊎ ((n : ℕ) × (a : ℕ) × Contains counted (record { number = n; at = a; item = end table.mark }))
 
@@ -109,6 +115,11 @@ number_in name = number_by name.kind name.store name.id
 -- a number that a data file may have
 abbrev pub IsNumber : ℕ → Type 0
 IsNumber n = (1 ≤ n) × (n ≤ 4294967294)
+
+-- One above the greatest of these numbers, or 1 where there is none.
+pub record IsBehind (numbers : List ℕ) (number : ℕ) : Type 0 where
+  pub above : All (λ n. n < number) numbers
+  pub reached : (number ≡ 1) ⊎ Contains numbers (number - 1)
 
 -- an image has each of these data files as it is here, or doesn't have it
 abbrev pub IsSettledAll : List ℕ → Image → Image → Type 0
@@ -160,10 +171,10 @@ pub record IsMadeOf (table : Table) (given file : ℕ) (session : Session) : Typ
 abbrev pub IsFirstDamageOf : Image → Damage → Type 0
 IsFirstDamageOf files damage = (damage.file ≡ log_name damage.file.id) × IsFirstDamage files damage.file.id damage.at damage.kind
 
--- A session is made of the table of what these data files hold, which are undamaged. Its file's number is above theirs.
+-- A session is made of the table of what these data files hold, which are undamaged. Its file's number is the next one.
 pub record IsReadFrom (files : Image) (numbers : List ℕ) (given : ℕ) (session : Session) : Type 0 where
   pub table : Table
   pub stands : StandsForItems table (counted_of files numbers)
   pub undamaged : AreUndamaged files numbers
   pub made : IsMadeOf table given session.file session
-  pub above : All (λ n. n < session.file) numbers
+  pub behind : IsBehind numbers session.file

@@ -1,5 +1,5 @@
 -- What a session stands for: one plain map, in memory and in every image that a crash may leave.
-use Rattle.std.specs.Prelude.{◌≡◌, ◌⊎◌, ℕ, ◌+◌, ◌-◌, ◌^◌, ◌<◌, ◌==◌, Bool, false, List, [], ◌∷◌, Option, Some, None, if◌then◌else◌, nat_lt, max}
+use Rattle.std.specs.Prelude.{◌≡◌, ◌⊎◌, ℕ, ◌+◌, ◌-◌, ◌^◌, ◌<◌, ◌==◌, Bool, false, List, [], ◌∷◌, Option, Some, None, IsSome, if◌then◌else◌, nat_lt, max}
 use Rattle.std.specs.FinMap.{get, insert}
 use Rattle.cache_model.specs.declared.entries.Until.TheVariants.{Never}
 use Rattle.cache_model.specs.declared.entries.Lifespan.TheVariants.{Endless}
@@ -124,3 +124,13 @@ pub record Opens (files : Image) (given : ℕ) (plain : Plain) : Type 0 where
   pub mark : ℕ
   pub marked : IsMark files mark
   pub moment : plain.moment ≡ max given mark
+
+-- One above the greatest sequence number of the records that count in an image, or 1 where none counts.
+pub record IsNextSequence (image : Image) (next : ℕ) : Type 0 where
+  pub above : IsAboveRecords next image
+  pub reached : (next ≡ 1) ⊎ ((number : ℕ) × (at : ℕ) × (item : Item) × (key : List ℕ) × IsCounted image number at item × (key_of item ≡ Some key) × (next ≡ sequence_of item + 1))
+
+-- One above the greatest number of a data file of the main store, or 1 where there is none.
+pub record IsNextFile (image : Image) (number : ℕ) : Type 0 where
+  pub above : (n : ℕ) → IsSome (file_in image (log_name n)) → n < number
+  pub reached : (number ≡ 1) ⊎ IsSome (file_in image (log_name (number - 1)))

@@ -10,7 +10,7 @@ ghost use Rattle.cache_model.specs.Files.{IsFileName, file_in};
 ghost use Rattle.cache_model.specs.Images.{log_name};
 ghost use Rattle.cache_disk.specs.State.{SameFiles, Silent, Moves};
 ghost use Rattle.cache_disk.specs.Calls.{DiskCause, HasStoreCause, AllLeft};
-ghost use Rattle.cache_session.specs.Opening.{is_foreign_kind, has_foreign, number_in, IsNumber, IsSettledAll, SameLogs};
+ghost use Rattle.cache_session.specs.Opening.{is_foreign_kind, has_foreign, number_in, IsNumber, IsBehind, IsSettledAll, SameLogs};
 
 use cache_disk::{Host, HostFault};
 use cache_model::{FileKind, FileName, StoreFault};
@@ -97,7 +97,7 @@ pub(crate) fn number_behind(numbers: &[u32]) -> u32
     requires within { All IsNumber numbers.now }
     requires rising { IsNonDecreasing numbers.now }
     ensures some { 1 ≤ result }
-    ensures behind { All (λ n. n < result) numbers.now }
+    ensures behind { IsBehind numbers.now result }
 {
     match numbers.last() {
         Some(last) => *last + 1,

@@ -1,5 +1,5 @@
 // The newest record of each key among the items of data files.
-ghost use Rattle.std.specs.Prelude.{◌≡◌, ◌+◌, ◌^◌, ◌<◌, ◌≤◌, List, ◌++◌, ◌∷◌, [], length, true, false, OnOk, IfErr, vec_len};
+ghost use Rattle.std.specs.Prelude.{◌≡◌, ◌+◌, ◌^◌, ◌<◌, ◌≤◌, List, ◌++◌, ◌∷◌, [], length, true, false, OnOk, IfErr, vec_len, max};
 ghost use Rattle.cache_model.specs.Items.{IsItem};
 ghost use Rattle.cache_model.specs.Images.{IsNoNewer};
 ghost use Rattle.cache_model.specs.declared.faults.ModelFault.TheVariants.{Memory};
@@ -112,8 +112,7 @@ impl Table {
         requires { seq < 2 ^ 62 }
         ensures records { self.new.records ≡ self.old.records }
         ensures mark { self.new.mark ≡ self.old.mark }
-        ensures above { seq < self.new.next }
-        ensures later { self.old.next ≤ self.new.next }
+        ensures next { self.new.next ≡ max self.old.next (seq + 1) }
     {
         if self.next <= seq {
             self.next = seq + 1;

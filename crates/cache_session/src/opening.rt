@@ -160,8 +160,9 @@ fn open<H: Host>(
 
 impl Session {
     /// Opens the directory at a moment, which is below 2^61: the session's moment is the later one of it and of the
-    /// mark. Before anything is read every data file of the main store, and then the names of all files, are synced;
-    /// nothing else is done to the files.
+    /// mark. Its next sequence number is one above the greatest of the records that count, and its file's number one
+    /// above the greatest of a data file; where there is none, 1. Before anything is read every data file of the main
+    /// store, and then the names of all files, are synced; nothing else is done to the files.
     pub fn start<H: Host>(alloc: Global, host: &mut H, given: u64) -> Result<Session, StartFault>
         requires { given < 2 ^ 61 }
         ensures foreign { IsTrue H.tells → IsErrOf result StartFault.Foreign → IsForeign (H.state host.old).files }

@@ -3,4 +3,4 @@ use Rattle.cache_session.proofs.Noting.{stands-new}
 use Rattle.cache_session.proofs.newest.Table.new.Goals as goal
 
 pub returns : goal.returns
-returns c = stands-new _ c.new.ensures.items refl
+returns c = stands-new _ c.new.ensures.items refl refl

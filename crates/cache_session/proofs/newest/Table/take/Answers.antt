@@ -1,5 +1,4 @@
-use Rattle.std.proofs.Common.{refl, inl, inr, arith, List}
-use Rattle.cache_session.specs.Opening.{Counted, StandsForItems}
+use Rattle.std.proofs.Common.{refl, inl, inr, arith}
 use Rattle.cache_session.proofs.Noting.{takes-record, stands-end}
 use Rattle.cache_session.proofs.newest.Table.take.Goals as goal
 
@@ -8,7 +7,7 @@ returns-in-Put-clause-stands c counted stands =
     rw c.in-Put.is
     (takes-record c.note.result c.args.self.now c.count.new.self c.note.new.self counted _ c.in-Put.key _ stands
     (record { number = refl; at = refl; of_key = refl; seq = refl; entry = refl })
-    c.count.ensures.records c.count.ensures.mark c.count.ensures.above c.count.ensures.later
+    c.count.ensures.records c.count.ensures.mark c.count.ensures.next
     c.note.ensures.mark c.note.ensures.next c.note.ensures.noted)
 
 pub returns-in-Removal-clause-stands : goal.returns-in-Removal-clause-stands
@@ -16,7 +15,7 @@ returns-in-Removal-clause-stands c counted stands =
     rw c.in-Removal.is
     (takes-record c.note-in-Removal.result c.args.self.now c.count-in-Removal.new.self c.note-in-Removal.new.self counted _ c.in-Removal.key _ stands
     (record { number = refl; at = refl; of_key = refl; seq = refl; entry = refl })
-    c.count-in-Removal.ensures.records c.count-in-Removal.ensures.mark c.count-in-Removal.ensures.above c.count-in-Removal.ensures.later
+    c.count-in-Removal.ensures.records c.count-in-Removal.ensures.mark c.count-in-Removal.ensures.next
     c.note-in-Removal.ensures.mark c.note-in-Removal.ensures.next c.note-in-Removal.ensures.noted)
 
 pub returns-then-self-moment-clause-stands : goal.returns-then-self-moment-clause-stands
