@@ -1,3 +1,13 @@
+mod Answering
+mod Beginning
+mod Commands
+mod LongLines
 mod Pending
+mod ReadReplies
+mod Same
 mod Sessions
+mod SpentNumbers
+mod Stepping
 mod Taking
+mod Talking
+mod Told

@@ -1,5 +1,10 @@
 pub mod Built
+pub mod Causes
+pub mod Damages
+pub mod Ends
 pub mod FileNames
 pub mod LineReader
 pub mod Saying
+pub mod Talk
+pub mod Talking
 pub mod Words

@@ -1,11 +1,18 @@
 -- What saying does to a host.
-use Rattle.std.specs.Prelude.{ℕ, List, Result, Ok, Err}
+use Rattle.std.specs.Prelude.{◌≡◌, ℕ, List, Result, Ok, Err}
 use Rattle.cache_model.specs.declared.replies.Status.{Status}
+use Rattle.cache_model.specs.declared.replies.Status.TheVariants as status
 use Rattle.cache_disk.specs.declared.host.HostFault.{HostFault}
+use Rattle.cache_disk.specs.declared.host.HostFault.TheVariants.{Failed, Memory}
 use Rattle.cache_disk.specs.State.{HostState}
 use Rattle.cache_disk.specs.Calls.{Said}
+
+-- what a run ends with where saying failed or wanted memory
+abbrev pub say_status : HostFault → Status
+say_status Failed = status.SayFailed
+say_status Memory = status.NoMemory
 
 -- the bytes were said, or the output failed or wanted memory
 abbrev pub SaidBy : List ℕ → HostState → HostState → Result (Unit {0}) Status → Type 0
 SaidBy bytes from to (Ok done) = Said bytes from to (Ok tt)
-SaidBy bytes from to (Err ended) = (fault : HostFault) × Said bytes from to (Err fault)
+SaidBy bytes from to (Err ended) = (fault : HostFault) × Said bytes from to (Err fault) × (ended ≡ say_status fault)

@@ -1,9 +1,17 @@
 // One line of a script after another, and its answer.
-ghost use Rattle.std.specs.Prelude.{◌≡◌, ◌<◌, ℕ, false, true, IsTrue, IfOk, OnOk};
+ghost use Rattle.std.specs.Prelude.{◌≡◌, ◌<◌, ◌∷◌, ℕ, List, Some, None, false, true, IsTrue, IfOk, OnOk, MatchResult};
+ghost use Rattle.cache_model.specs.declared.commands.Command.{Command};
+ghost use Rattle.cache_model.specs.declared.commands.Command.TheVariants.{Put, Get};
+ghost use Rattle.cache_model.specs.declared.entries.Lifespan.TheVariants.{Endless};
+ghost use Rattle.cache_model.specs.Lines.{command_of, lines_of};
+ghost use Rattle.cache_model.specs.Replies.{line_of, refusal_text, memory};
 ghost use Rattle.cache_session.specs.Session.{is_session_spoilt, IsUsable, IsSessionStanding};
 ghost use Rattle.cache_cli.specs.Built.{IsBuilt};
-ghost use Rattle.cache_cli.specs.LineReader.{units_taken};
+ghost use Rattle.cache_cli.specs.Causes.{HasHostCause, HasCause};
+ghost use Rattle.cache_cli.specs.LineReader.{units_taken, unread};
 ghost use Rattle.cache_cli.specs.Saying.{SaidBy};
+ghost use Rattle.cache_cli.specs.Talk.{Talk};
+ghost use Rattle.cache_cli.specs.Talking.{HoldsFrom, IsTalking, IsInHand, Told, Answered, IsTalkingOn, Stepped, Ran};
 
 use crate::line::{LineFault, read_line};
 use crate::line_reader::{LineReader, ReadFault, Taken};
@@ -15,7 +23,8 @@ use std::alloc::Global;
 
 /// Says some bytes at once.
 pub fn say<H: Host>(host: &mut H, bytes: &[u8]) -> Result<(), Status>
-    ensures { IsTrue H.tells → SaidBy bytes.now (H.state host.old) (H.state host.new) result }
+    ensures told { IsTrue H.tells → SaidBy bytes.now (H.state host.old) (H.state host.new) result }
+    ensures cause { HasHostCause (H.state host.old) (H.state host.new) result }
 {
     match host.say(bytes) {
         Ok(()) => Ok(()),
@@ -26,7 +35,11 @@ pub fn say<H: Host>(host: &mut H, bytes: &[u8]) -> Result<(), Status>
 
 /// Says an answer of a session, which stands on.
 pub fn say_answer<H: Host>(session: &Session, host: &mut H, bytes: &[u8]) -> Result<(), Status>
-    ensures { IsTrue H.tells → IsSessionStanding session.now (H.state host.old) → IsSessionStanding session.now (H.state host.new) }
+    ensures standing { IsTrue H.tells → IsSessionStanding session.now (H.state host.old) → IsSessionStanding session.now (H.state host.new) }
+    ensures told { IsTrue H.tells → (from : H) (given : ℕ) (script left : List (List ℕ)) (talk : Talk)
+        → IsInHand (H.state from) given script left talk bytes.now session.now (H.state host.old)
+        → Told (H.state from) given script left talk session.now (H.state host.old) (H.state host.new) result }
+    ensures cause { HasHostCause (H.state host.old) (H.state host.new) result }
 {
     say(host, bytes)
 }
@@ -42,6 +55,10 @@ pub fn talk<H: Host, S: Source>(
     requires sound { is_session_spoilt session.old ≡ false }
     requires usable { IsUsable session.old }
     requires stands { IsTrue H.tells → IsSessionStanding session.old (H.state host.old) }
+    ensures ran { IsTrue H.tells → IsTrue S.tells → (from : H) (given : ℕ) (lines : List (List ℕ)) (talk : Talk)
+        → IsTalkingOn (H.state from) given lines talk session.old (H.state host.old) reader.old (S.rest script.old)
+        → Ran (H.state from) given lines (H.state host.new) result }
+    ensures cause { HasCause (H.state host.old) (H.state host.new) (S.faults script.old) (S.faults script.new) result }
 {
     'lines: while answer_next(alloc, session, reader, host, script)? {}
     Ok(())
@@ -62,6 +79,10 @@ fn answer_next<H: Host, S: Source>(
     ensures usable { OnOk result (IsUsable session.new) }
     ensures standing { IsTrue H.tells → OnOk result (IsSessionStanding session.new (H.state host.new)) }
     ensures units { IfOk result (λ more. more ≡ true → units_taken reader.old < units_taken reader.new) }
+    ensures answered { IsTrue H.tells → IsTrue S.tells → (from : H) (given : ℕ) (lines : List (List ℕ)) (talk : Talk)
+        → IsTalkingOn (H.state from) given lines talk session.old (H.state host.old) reader.old (S.rest script.old)
+        → Stepped (H.state from) given lines session.new (H.state host.new) reader.new (S.rest script.new) result }
+    ensures cause { HasCause (H.state host.old) (H.state host.new) (S.faults script.old) (S.faults script.new) result }
 {
     match reader.next(script) {
         Ok(Taken::Line) => {
@@ -95,6 +116,10 @@ fn respond<H: Host>(
     ensures sound { OnOk result (is_session_spoilt session.new ≡ false) }
     ensures usable { OnOk result (IsUsable session.new) }
     ensures standing { IsTrue H.tells → OnOk result (IsSessionStanding session.new (H.state host.new)) }
+    ensures answered { IsTrue H.tells → (from : H) (given : ℕ) (script left : List (List ℕ)) (talk : Talk)
+        → IsTalking (H.state from) given script (line.now ∷ left) talk session.old (H.state host.old)
+        → Answered (H.state from) given script left talk line.now session.new (H.state host.new) result }
+    ensures cause { HasHostCause (H.state host.old) (H.state host.new) result }
 {
     match read_line(alloc, line) {
         Ok(command) => answer(alloc, session, host, command),
@@ -117,6 +142,11 @@ fn answer<H: Host>(
     ensures sound { OnOk result (is_session_spoilt session.new ≡ false) }
     ensures usable { OnOk result (IsUsable session.new) }
     ensures standing { IsTrue H.tells → OnOk result (IsSessionStanding session.new (H.state host.new)) }
+    ensures answered { IsTrue H.tells → (from : H) (given : ℕ) (script left : List (List ℕ)) (talk : Talk) (line : List ℕ)
+        → command_of line ≡ Some command
+        → IsTalking (H.state from) given script (line ∷ left) talk session.old (H.state host.old)
+        → Answered (H.state from) given script left talk line session.new (H.state host.new) result }
+    ensures cause { HasHostCause (H.state host.old) (H.state host.new) result }
 {
     match command {
         Command::Put(key, value, _) => answer_put(session, host, key, value),
@@ -138,6 +168,11 @@ fn answer_put<H: Host>(
     ensures sound { OnOk result (is_session_spoilt session.new ≡ false) }
     ensures usable { OnOk result (IsUsable session.new) }
     ensures standing { IsTrue H.tells → OnOk result (IsSessionStanding session.new (H.state host.new)) }
+    ensures answered { IsTrue H.tells → (from : H) (given : ℕ) (script left : List (List ℕ)) (talk : Talk) (line : List ℕ)
+        → command_of line ≡ Some (Put key value Endless)
+        → IsTalking (H.state from) given script (line ∷ left) talk session.old (H.state host.old)
+        → Answered (H.state from) given script left talk line session.new (H.state host.new) result }
+    ensures cause { HasHostCause (H.state host.old) (H.state host.new) result }
 {
     match session.put(host, key, value) {
         Ok(()) => say_answer(session, host, b"ok\n"),
@@ -152,6 +187,11 @@ fn answer_put<H: Host>(
 fn refuse_memory<H: Host>(session: &Session, host: &mut H) -> Result<(), Status>
     ensures sound { OnOk result (is_session_spoilt session.now ≡ false) }
     ensures standing { IsTrue H.tells → IsSessionStanding session.now (H.state host.old) → IsSessionStanding session.now (H.state host.new) }
+    ensures told { IsTrue H.tells → (from : H) (given : ℕ) (script left : List (List ℕ)) (talk : Talk)
+        → HoldsFrom (H.state from) (H.state host.old) given script
+        → (is_session_spoilt session.now ≡ false → IsInHand (H.state from) given script left talk (line_of (refusal_text memory)) session.now (H.state host.old))
+        → Told (H.state from) given script left talk session.now (H.state host.old) (H.state host.new) result }
+    ensures cause { HasHostCause (H.state host.old) (H.state host.new) result }
 {
     if session.is_spoilt() {
         return Err(Status::NoMemory);
@@ -166,7 +206,12 @@ fn answer_get<H: Host>(
     host: &mut H,
     key: &Key,
 ) -> Result<(), Status>
-    ensures { IsTrue H.tells → IsSessionStanding session.now (H.state host.old) → IsSessionStanding session.now (H.state host.new) }
+    ensures standing { IsTrue H.tells → IsSessionStanding session.now (H.state host.old) → IsSessionStanding session.now (H.state host.new) }
+    ensures answered { IsTrue H.tells → (from : H) (given : ℕ) (script left : List (List ℕ)) (talk : Talk) (line : List ℕ)
+        → command_of line ≡ Some (Get key.now)
+        → IsTalking (H.state from) given script (line ∷ left) talk session.now (H.state host.old)
+        → Answered (H.state from) given script left talk line session.now (H.state host.new) result }
+    ensures cause { HasHostCause (H.state host.old) (H.state host.new) result }
 {
     let Ok(reply) = session.get(key) else {
         return say_answer(session, host, b"refused memory\n");

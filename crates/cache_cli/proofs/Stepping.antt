@@ -1,0 +1,163 @@
+-- One step of a run: a line more, or the end of the script.
+use Rattle.std.proofs.Common.{◌≡◌, ◌⊎◌, inl, inr, ℕ, ◌+◌, ◌^◌, ◌<◌, ◌≤◌, Bool, true, false, List, [], ◌∷◌, ◌++◌, length, Option, Some, None, Result, Ok, Err, refl, sym, ◌∙◌, ap, subst, arith, append_assoc}
+use Rattle.std.specs.Prelude.{sum_by, IsErr, IsErrAnd}
+use Rattle.std.proofs.lemmas.List.{append-nil}
+use Rattle.std.proofs.lemmas.List.Sums.{sum_by-append, sum_by-cons}
+use Rattle.cache_model.specs.declared.replies.Status.{Status}
+use Rattle.cache_model.specs.Files.{Image, file_in}
+use Rattle.cache_model.specs.DataFiles.{Frame, file_spelling}
+use Rattle.cache_model.specs.Images.{log_name}
+use Rattle.cache_model.specs.Lines.{command_of, lines_of, units_of, units_of_length}
+use Rattle.cache_model.specs.Replies.{Response, refused, syntax, opened_line, response_lines, stopped_line}
+use Rattle.cache_disk.specs.State.{HostState}
+use Rattle.cache_disk.specs.Calls.{and_then_said}
+use Rattle.data_file.specs.declared.appender.Appender.{Appender}
+use Rattle.cache_session.specs.declared.session.Session.{Session}
+use Rattle.cache_session.specs.Session.{SessionStands, IsLogOf, IsFileOf}
+use Rattle.cache_cli.specs.declared.line_reader.LineReader.{LineReader}
+use Rattle.cache_cli.specs.LineReader.{unread, units_taken, TakesLine, Exhausts}
+use Rattle.cache_cli.specs.Talk.{Talk, IsTalk, text_of, end_text, frames_in}
+use Rattle.cache_cli.specs.Ends.{Says, HoldsFrames, EndsWhole, EndsEarly, EndsTaken}
+use Rattle.cache_cli.specs.Talking.{HoldsFrom, IsTelling, IsTalking, IsInHand, EndsBy, Answered, IsTalkingOn, Stepped, Ran}
+use Rattle.cache_cli.proofs.SpentNumbers.{written_whole}
+use Rattle.cache_cli.proofs.Answering.{said-append}
+
+-- a talk whose end is answered
+abbrev pub with_end : Talk → Talk
+with_end talk = record {
+  opening = talk.opening;
+  first = talk.first;
+  number = talk.number;
+  answered = talk.answered;
+  responses = talk.responses;
+  ended = true;
+}
+
+-- what is said with the end
+text-end : (talk : Talk) → talk.ended ≡ false → text_of (with_end talk) ≡ text_of talk ++ stopped_line
+text-end talk going =
+    let front = opened_line talk.opening.moment ++ response_lines talk.responses in
+    let none : text_of talk ≡ front = ap (λ (ended : Bool). front ++ end_text ended) going ∙ append-nil front in
+    ap (λ (l : List ℕ). l ++ stopped_line) (sym none)
+
+-- the answer to the end of the script is in hand
+pub in_hand_end : (from : HostState) (given : ℕ) (script left : List (List ℕ)) (talk : Talk) (session : Session) (a : HostState)
+    → IsTalking from given script left talk session a → left ≡ [] → IsInHand from given script [] (with_end talk) stopped_line session a
+in_hand_end from given script left talk session a talking none =
+    let telling = talking.0 in
+    let is = telling.is_talk in
+    record {
+      is_talk = record {
+        opens = is.opens;
+        first = is.first;
+        number = is.number;
+        split = is.split ∙ ap (λ (l : List (List ℕ)). talk.answered ++ l) none;
+        answers = is.answers;
+        whole = λ ended. refl;
+      };
+      says = ap (λ (s : Option (List ℕ)). and_then_said s stopped_line) telling.says
+          ∙ said-append (from.said from.turn) (text_of talk) stopped_line
+          ∙ ap (λ (l : List ℕ). and_then_said (from.said from.turn) l) (sym (text-end talk talking.1));
+      stands = telling.stands;
+      next = telling.next;
+      moment = telling.moment;
+      file = telling.file;
+      others = telling.others;
+      holds = telling.holds;
+    }
+
+-- the session's file as it reads
+holds_frames : (log : Option Appender) (number : ℕ) (now : HostState) (frames : List Frame) → now.left now.turn now.files → IsLogOf log number → IsFileOf log number now frames → HoldsFrames now.files number frames
+holds_frames None number now frames reads usable file = inr (file.1 now.files reads, file.0)
+holds_frames (Some log) number now frames reads usable file =
+    inl (ap (λ name. file_in now.files name) (sym usable.0) ∙ file.reads ∙ ap (λ (bytes : List ℕ). Some bytes) (written_whole frames))
+
+-- a run whose end was answered
+pub ends_whole : (from : HostState) (given : ℕ) (script : List (List ℕ)) (talk : Talk) (session : Session) (now : HostState)
+    → IsTelling from given script [] (with_end talk) session now (now.said now.turn)
+    → now.left now.turn now.files
+    → IsLogOf session.log session.file
+    → units_of talk.answered < 2 ^ 32
+    → EndsWhole from now given script
+ends_whole from given script talk session now telling reads usable units = record {
+  talk = with_end talk;
+  says = record { is_talk = telling.is_talk; said = telling.says };
+  ended = refl;
+  file = subst (λ (n : ℕ). HoldsFrames now.files n (frames_in talk)) telling.file (holds_frames session.log session.file now (frames_in talk) reads usable telling.stands.file);
+  others = telling.others;
+  units = omega (arith, units, ap units_of (telling.is_talk.split ∙ append-nil talk.answered));
+}
+
+-- the units of one line more
+units-append : (lines : List (List ℕ)) (line : List ℕ) → units_of (lines ++ line ∷ []) ≡ units_of lines + (1 + units_of_length (length line))
+units-append lines line =
+    let units_by : List ℕ → ℕ = λ (l : List ℕ). 1 + units_of_length (length l) in
+    sum_by-append units_by lines (line ∷ []) ∙ ap (λ (n : ℕ). sum_by units_by lines + n) (sum_by-cons units_by line [] ∙ omega arith)
+
+-- the line that was taken is in hand
+pub has_line : (from : HostState) (given : ℕ) (script : List (List ℕ)) (talk : Talk) (session : Session) (now : HostState) (old new : LineReader) (rest_old rest_new : List ℕ) (line : List ℕ)
+    → IsTalkingOn from given script talk session now old rest_old
+    → TakesLine line (unread old rest_old) (unread new rest_new) old.units new.units
+    → IsTalking from given script (line ∷ lines_of (unread new rest_new)) talk session now
+has_line from given script talk session now old new rest_old rest_new line on takes = subst (λ (left : List (List ℕ)). IsTalking from given script left talk session now) takes.lines on.talking
+
+-- a line more was answered
+pub stepped_on : (from : HostState) (given : ℕ) (script : List (List ℕ)) (talk : Talk) (before session : Session) (a now : HostState) (old new : LineReader) (rest_old rest_new : List ℕ) (line : List ℕ)
+    → IsTalkingOn from given script talk before a old rest_old
+    → TakesLine line (unread old rest_old) (unread new rest_new) old.units new.units
+    → Answered from given script (lines_of (unread new rest_new)) talk line session now (Ok tt)
+    → Stepped from given script session now new rest_new (Ok true)
+stepped_on from given script talk before session a now old new rest_old rest_new line on takes answered = record {
+  goes = (
+    answered.goes.talk,
+    record {
+      talking = answered.goes.talking;
+      units = omega (arith, takes.counted, on.units, units-append talk.answered line, ap units_of answered.goes.answers);
+    },
+  );
+  ends = tt;
+  holds = answered.holds;
+}
+
+-- the run ended
+pub stepped_out : (from : HostState) (given : ℕ) (script : List (List ℕ)) (session : Session) (now : HostState) (reader : LineReader) (rest : List ℕ) (ended : Status) (result : Result Bool Status)
+    → IsErr result × IsErrAnd result (λ given. given ≡ ended)
+    → EndsBy ended from now given script
+    → HoldsFrom from now given script
+    → Stepped from given script session now reader rest result
+stepped_out from given script session now reader rest ended (Ok more) is ends holds = cc
+stepped_out from given script session now reader rest ended (Err status) is ends holds = record {
+  goes = tt;
+  ends = subst (λ (s : Status). EndsBy s from now given script) (sym is.1) ends;
+  holds = holds;
+}
+
+-- a run that took as many units as it may
+pub ends_taken : (from : HostState) (given : ℕ) (script : List (List ℕ)) (talk : Talk) (session : Session) (now : HostState) (reader : LineReader) (rest : List ℕ)
+    → IsTalkingOn from given script talk session now reader rest → Exhausts (unread reader rest) (units_taken reader) → EndsTaken from now given script
+ends_taken from given script talk session now reader rest on exhausts = record {
+  talk = talk;
+  part = exhausts.line;
+  rest = exhausts.rest;
+  says = record { is_talk = subst (λ (input : List ℕ). IsTalk talk from.files given script (lines_of input)) exhausts.front on.talking.0.is_talk; said = on.talking.0.says };
+  going = on.talking.1;
+  lacks = exhausts.lacks;
+  units = omega (arith, exhausts.spent, on.units);
+}
+
+-- as many units as the reader took
+pub units_fit : (units : ℕ) (talk : Talk) → units ≡ units_of talk.answered → units < 2 ^ 32 → units_of talk.answered < 2 ^ 32
+units_fit units talk same below = omega (arith, same, below)
+
+-- the run ended with the status of a step
+pub ran_out : (from : HostState) (given : ℕ) (script : List (List ℕ)) (now : HostState) (ended : Status) (result : Result (Unit {0}) Status)
+    → IsErr result × IsErrAnd result (λ given. given ≡ ended)
+    → EndsBy ended from now given script
+    → HoldsFrom from now given script
+    → Ran from given script now result
+ran_out from given script now ended (Ok done) is ends holds = cc
+ran_out from given script now ended (Err status) is ends holds = record {
+  whole = tt;
+  ends = subst (λ (s : Status). EndsBy s from now given script) (sym is.1) ends;
+  holds = holds;
+}
