@@ -1,4 +1,5 @@
 pub mod Built
+pub mod Damages
 pub mod FileNames
 pub mod LineReader
 pub mod Saying
