@@ -1,3 +1,4 @@
+mod LongLines
 mod Pending
 mod Sessions
 mod Taking
