@@ -19,6 +19,7 @@ use Rattle.cache_disk.proofs.Runs.{SameBut-same, SameBut-trans, SameBut-files}
 use Rattle.cache_session.specs.declared.session.Session.{Session}
 use Rattle.cache_session.specs.Session.{SessionStands, next_sequence, moment_of, file_number}
 use Rattle.cache_cli.specs.Talk.{Talk, IsTalk, done_in, plain_of, text_of, end_text, frames_of, frames_in, command_in_hand, FitsTalk, IsUntouched, HoldsAtTurn, HoldsThroughout, frame_by}
+use Rattle.cache_cli.specs.Ends.{IsWithin}
 use Rattle.cache_cli.specs.Talking.{HoldsFrom, IsTelling, IsTalking, IsInHand}
 use Rattle.cache_model.specs.Prefix.{FitsPrefix, promised_changes}
 use Rattle.cache_cli.proofs.Same.{sound_same, reads_same}
@@ -168,9 +169,10 @@ pub in_hand : (from : HostState) (given : ℕ) (script left : List (List ℕ)) (
     → file_number new ≡ file_number old
     → SameBut (log_name (file_number old)) a.files b.files
     → b.said b.turn ≡ a.said a.turn
+    → IsWithin talk.first talk.number (frames_in talk ++ added)
     → HoldsFrom from b given script
     → IsInHand from given script left (with_answer talk line response) (line_of (response_text response)) new b
-in_hand from given script left talk line command response old new a b added talking names answers framed stands counted moment file others said holds =
+in_hand from given script left talk line command response old new a b added talking names answers framed stands counted moment file others said within holds =
     let telling = talking.0 in
     let is = telling.is_talk in
     let start = talk.opening.moment in
@@ -193,6 +195,7 @@ in_hand from given script left talk line command response old new a b added talk
       moment = moment ∙ telling.moment;
       file = file ∙ telling.file;
       others = SameBut-trans (log_name talk.number) from.files a.files b.files telling.others (subst (λ (n : ℕ). SameBut (log_name n) a.files b.files) telling.file others);
+      within = subst (λ (l : List Frame). IsWithin talk.first talk.number l) (sym frames) within;
       holds = holds;
     }
 
@@ -214,7 +217,7 @@ pub in_hand_kept : (from : HostState) (given : ℕ) (script left : List (List �
 in_hand_kept from given script left talk line command response old new a b talking names answers none same stands next moment file others said holds =
     in_hand from given script left talk line command response old new a b [] talking names answers none
     (subst (λ (p : Plain). SessionStands new b p (frames_in talk ++ [])) (sym same) (subst (λ (l : List Frame). SessionStands new b (plain_of talk) l) (sym (append-nil (frames_in talk))) stands))
-    (omega (arith, next)) moment file others said holds
+    (omega (arith, next)) moment file others said (subst (λ (l : List Frame). IsWithin talk.first talk.number l) (sym (append-nil (frames_in talk))) talking.0.within) holds
 
 -- likewise where nothing was done at all
 pub in_hand_still : (from : HostState) (given : ℕ) (script left : List (List ℕ)) (talk : Talk) (line : List ℕ) (command : Option Command) (response : Response) (session : Session) (a : HostState)
@@ -242,6 +245,7 @@ module _ (from : HostState) (given : ℕ) (script left : List (List ℕ)) (talk 
     moment = hand.moment;
     file = hand.file;
     others = SameBut-trans (log_name talk.number) from.files a.files b.files hand.others (SameBut-files (log_name talk.number) a.files b.files said.files);
+    within = hand.within;
     holds = λ sound. goes_on_silent from a b given script SameFiles (and_then_said (a.said a.turn) bytes) (hand.holds sound) said.ok.images said.ok.said reads_since;
   }
 

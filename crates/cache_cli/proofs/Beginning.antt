@@ -91,6 +91,7 @@ in_hand_opened from given script session now begins bytes line =
       moment = opened.stands.moment;
       file = refl;
       others = SameBut-files (log_name (file_number session)) from.files now.files begins.files;
+      within = record { sequence = omega (arith, session.next_fits); file = λ last. refl; size = omega arith };
       holds = begins.holds;
     }
 

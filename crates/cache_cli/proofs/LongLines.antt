@@ -29,7 +29,7 @@ taken_by-words (byte ∷ line) =
     ]
 
 -- no token is longer than the most that it may have
-token-short : (most : ℕ) (word : List ℕ) → is_token most word ≡ true → length word ≤ most
+pub token-short : (most : ℕ) (word : List ℕ) → is_token most word ≡ true → length word ≤ most
 token-short most word token = grind (arith, nat_tests)
 
 -- a word that is the name of a command is as long as the name

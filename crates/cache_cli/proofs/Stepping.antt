@@ -19,7 +19,7 @@ use Rattle.cache_cli.specs.LineReader.{unread, units_taken, TakesLine, Exhausts}
 use Rattle.cache_cli.specs.Talk.{Talk, IsTalk, text_of, end_text, frames_in}
 use Rattle.cache_cli.specs.Ends.{Says, HoldsFrames, EndsWhole, EndsEarly, EndsTaken}
 use Rattle.cache_cli.specs.Talking.{HoldsFrom, IsTelling, IsTalking, IsInHand, EndsBy, Answered, IsTalkingOn, Stepped, Ran}
-use Rattle.cache_cli.proofs.SpentNumbers.{written_whole}
+use Rattle.data_file.proofs.Bytes.{written-none}
 use Rattle.cache_cli.proofs.Answering.{said-append}
 
 -- a talk whose end is answered
@@ -63,6 +63,7 @@ in_hand_end from given script left talk session a talking none =
       moment = telling.moment;
       file = telling.file;
       others = telling.others;
+      within = telling.within;
       holds = telling.holds;
     }
 
@@ -70,7 +71,7 @@ in_hand_end from given script left talk session a talking none =
 holds_frames : (log : Option Appender) (number : ℕ) (now : HostState) (frames : List Frame) → now.left now.turn now.files → IsLogOf log number → IsFileOf log number now frames → HoldsFrames now.files number frames
 holds_frames None number now frames reads usable file = inr (file.1 now.files reads, file.0)
 holds_frames (Some log) number now frames reads usable file =
-    inl (ap (λ name. file_in now.files name) (sym usable.0) ∙ file.reads ∙ ap (λ (bytes : List ℕ). Some bytes) (written_whole frames))
+    inl (ap (λ name. file_in now.files name) (sym usable.0) ∙ file.reads ∙ ap (λ (bytes : List ℕ). Some bytes) (written-none frames))
 
 -- a run whose end was answered
 pub ends_whole : (from : HostState) (given : ℕ) (script : List (List ℕ)) (talk : Talk) (session : Session) (now : HostState)
@@ -81,7 +82,7 @@ pub ends_whole : (from : HostState) (given : ℕ) (script : List (List ℕ)) (ta
     → EndsWhole from now given script
 ends_whole from given script talk session now telling reads usable units = record {
   talk = with_end talk;
-  says = record { is_talk = telling.is_talk; said = telling.says };
+  says = record { is_talk = telling.is_talk; within = telling.within; said = telling.says };
   ended = refl;
   file = subst (λ (n : ℕ). HoldsFrames now.files n (frames_in talk)) telling.file (holds_frames session.log session.file now (frames_in talk) reads usable telling.stands.file);
   others = telling.others;
@@ -139,7 +140,7 @@ ends_taken from given script talk session now reader rest on exhausts = record {
   talk = talk;
   part = exhausts.line;
   rest = exhausts.rest;
-  says = record { is_talk = subst (λ (input : List ℕ). IsTalk talk from.files given script (lines_of input)) exhausts.front on.talking.0.is_talk; said = on.talking.0.says };
+  says = record { is_talk = subst (λ (input : List ℕ). IsTalk talk from.files given script (lines_of input)) exhausts.front on.talking.0.is_talk; within = on.talking.0.within; said = on.talking.0.says };
   going = on.talking.1;
   lacks = exhausts.lacks;
   units = omega (arith, exhausts.spent, on.units);

@@ -45,7 +45,7 @@ pub ends_early : (from : HostState) (given : ℕ) (script left : List (List ℕ)
 ends_early from given script left talk session a b talking silent = record {
   talk = talk;
   left = left;
-  says = record { is_talk = talking.0.is_talk; said = silent ∙ talking.0.says };
+  says = record { is_talk = talking.0.is_talk; within = talking.0.within; said = silent ∙ talking.0.says };
   going = talking.1;
 }
 
@@ -62,7 +62,7 @@ ends_spent from given script left talk line key value session a b s talking name
   left = left;
   key = key;
   value = value;
-  says = record { is_talk = talking.0.is_talk; said = silent ∙ talking.0.says };
+  says = record { is_talk = talking.0.is_talk; within = talking.0.within; said = silent ∙ talking.0.says };
   going = talking.1;
   puts = names;
   spent = is_spent session a talk (length key + length value) s talking.0.stands talking.0.next talking.0.file is;

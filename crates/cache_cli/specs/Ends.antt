@@ -15,9 +15,17 @@ use Rattle.cache_session.specs.Opening.{IsForeign, IsFirstDamageOf}
 use Rattle.cache_cli.specs.Damages.{damage_line}
 use Rattle.cache_cli.specs.Talk.{Talk, IsTalk, text_of, frames_in}
 
--- What was said is a talk: these lines of the script are left.
+-- Some frames whose first has this number, in the file with that number: none is numbered beyond the last sequence
+-- number, none is in a file beyond the last one, and none goes beyond the greatest size of a file.
+pub record IsWithin (first number : ℕ) (frames : List Frame) : Type 0 where
+  pub sequence : first + length frames ≤ 2 ^ 62
+  pub file : number ≡ 2 ^ 32 - 1 → frames ≡ []
+  pub size : length (file_spelling frames) < 2 ^ 32
+
+-- What was said is a talk, whose puts are within their ends: these lines of the script are left.
 pub record Says (from to : HostState) (given : ℕ) (script left : List (List ℕ)) (talk : Talk) : Type 0 where
   pub is_talk : IsTalk talk from.files given script left
+  pub within : IsWithin talk.first talk.number (frames_in talk)
   pub said : to.said to.turn ≡ and_then_said (from.said from.turn) (text_of talk)
 
 -- the data file with this number is these frames, or isn't there where there is none

@@ -12,7 +12,7 @@ use Rattle.cache_session.specs.declared.session.Session.{Session}
 use Rattle.cache_cli.specs.declared.line_reader.LineReader.{LineReader}
 use Rattle.cache_cli.specs.LineReader.{unread, units_taken}
 use Rattle.cache_cli.specs.Talk.{Talk, IsTalk, plain_of, text_of, frames_in, HoldsThroughout}
-use Rattle.cache_cli.specs.Ends.{EndsWhole, EndsEarly, EndsSpent, EndsTaken, IsSilent}
+use Rattle.cache_cli.specs.Ends.{IsWithin, EndsWhole, EndsEarly, EndsSpent, EndsTaken, IsSilent}
 
 -- where no image that might be left at the beginning is damaged, each image since holds
 abbrev pub HoldsFrom : HostState → HostState → ℕ → List (List ℕ) → Type 0
@@ -28,6 +28,7 @@ pub record IsTelling (from : HostState) (given : ℕ) (script left : List (List 
   pub moment : moment_of session ≡ talk.opening.moment
   pub file : file_number session ≡ talk.number
   pub others : SameBut (log_name talk.number) from.files now.files
+  pub within : IsWithin talk.first talk.number (frames_in talk)
   pub holds : HoldsFrom from now given script
 
 -- a session talks: the end of the script isn't answered yet

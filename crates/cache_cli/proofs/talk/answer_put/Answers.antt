@@ -6,9 +6,11 @@ use Rattle.cache_model.specs.Replies.{replies, refused, memory}
 use Rattle.cache_model.specs.DataFiles.{Frame}
 use Rattle.cache_model.proofs.PlainEntries.{OnOk-map}
 use Rattle.cache_disk.proofs.Runs.{Silent-at}
-use Rattle.cache_session.specs.Session.{is_session_spoilt, IsSessionStanding, frame_of, next_sequence}
+use Rattle.cache_session.specs.Session.{is_session_spoilt, IsSessionStanding, frame_of, next_sequence, moment_of}
 use Rattle.cache_cli.specs.Talk.{plain_of, frames_in}
 use Rattle.cache_cli.proofs.Answering.{in_hand, in_hand_kept}
+use Rattle.cache_cli.proofs.Commands.{put_short}
+use Rattle.cache_cli.proofs.SpentNumbers.{within_put, ok_not_err}
 use Rattle.cache_cli.proofs.Sessions.{on_ok}
 use Rattle.cache_cli.proofs.Told.{answered, put_holds, ends_early, ends_spent}
 use Rattle.cache_cli.proofs.talk.answer_put.Goals as goal
@@ -40,6 +42,7 @@ returns-in-Ok-clause-answered g c = λ tells from given script left talk line na
     let said = Silent-at a b moves.later silent in
     let frame = ap (λ (m : ℕ). frame_of (next_sequence old) m c.args.key c.args.value ∷ []) (sym talking.0.moment) in
     let hand = in_hand start given script left talk line (Some (Put c.args.key c.args.value Endless)) (replies Done) old new a b _ talking names (inl refl) frame stands c.in-Ok.ensures.next c.in-Ok.ensures.moment c.in-Ok.ensures.file (c.in-Ok.ensures.others tells) said
+    (within_put old a talk c.args.key c.args.value (moment_of old) c.requires.usable talking.0.stands talking.0.next talking.0.file (λ s is. ok_not_err (c.in-Ok.ensures.spent s is)) (put_short line c.args.key c.args.value Endless names))
     (put_holds start given script left talk line c.args.key c.args.value old a b talking names moves silent) in
     answered start given script left talk line (replies Done) old new a b (g.H.Host.state c.say_answer.new.host) c.say_answer.result talking said
     (c.say_answer.ensures.told tells from given script left _ hand)
