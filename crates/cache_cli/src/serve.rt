@@ -77,3 +77,6 @@ fn tell_damage<H: Host>(alloc: Global, host: &mut H, damage: &Damage) -> Status 
         Err(status) => status,
     }
 }
+
+#[cfg(test)]
+mod tests;
