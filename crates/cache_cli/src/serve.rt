@@ -79,4 +79,8 @@ fn tell_damage<H: Host>(alloc: Global, host: &mut H, damage: &Damage) -> Status 
 }
 
 #[cfg(test)]
+mod crashes;
+#[cfg(test)]
+mod plain_reader;
+#[cfg(test)]
 mod tests;

@@ -11,7 +11,7 @@ use std::process::Abort;
 use std::test::Fail;
 
 // A file of a directory: its name and its bytes.
-type NamedBytes = (&'static str, &'static [u8]);
+pub(super) type NamedBytes = (&'static str, &'static [u8]);
 
 // The first data file with one frame, at the moment 1000, whose put of `b` under `a` has the number 1.
 pub(super) const ONE_PUT: &[u8] = &[
@@ -64,7 +64,7 @@ struct Outcome {
 }
 
 // The names of the data files.
-const FIRST: &str = "s0-0000000001.log";
+pub(super) const FIRST: &str = "s0-0000000001.log";
 
 const SECOND: &str = "s0-0000000002.log";
 
@@ -259,7 +259,7 @@ fn name_of(rt: &impl Abort, alloc: Global, text: &str) -> Result<FileName, Fail>
 }
 
 // A directory with one file at most.
-fn directory_of(
+pub(super) fn directory_of(
     rt: &impl Abort,
     alloc: Global,
     file: Option<NamedBytes>,
@@ -291,13 +291,23 @@ fn words_of(alloc: Global, texts: &[&str]) -> Result<Vec<String>, Fail> {
     Ok(words)
 }
 
-// Runs the program, and says how it ends.
+// Runs the program with these words, and says how it ends.
+pub(super) fn serve_script(
+    alloc: Global,
+    words: &[&str],
+    host: &mut MemoryHost,
+    script: MemorySource,
+) -> Result<Status, Fail> {
+    let words = words_of(alloc, words)?;
+    let mut script = script;
+    Ok(serve(alloc, &words, host, &mut script))
+}
+
+// Runs the program on what it is given, and says how it ends.
 fn run_on(alloc: Global, given: &Given, host: &mut MemoryHost) -> Result<Status, Fail> {
-    let words = words_of(alloc, given.words)?;
     let bytes = given.script.as_bytes().to_vec(alloc)?;
     let script = MemorySource::new(alloc, bytes, vec![in alloc; given.fill_fail]?)?;
-    let mut script = script.in_pieces(given.piece);
-    Ok(serve(alloc, &words, host, &mut script))
+    serve_script(alloc, given.words, host, script.in_pieces(given.piece))
 }
 
 // Runs the program, and compares what comes of it.
