@@ -138,3 +138,10 @@ fn tell_damage<H: Host>(alloc: Global, host: &mut H, damage: &Damage) -> Status
         Err(status) => status,
     }
 }
+
+#[cfg(test)]
+mod crashes;
+#[cfg(test)]
+mod plain_reader;
+#[cfg(test)]
+mod tests;

@@ -284,3 +284,6 @@ fn log_name(number: u32) -> FileName
         id: number,
     }
 }
+
+#[cfg(test)]
+mod tests;
