@@ -1,6 +1,7 @@
 mod Answering
 mod Beginning
 mod Commands
+mod Composing
 mod LongLines
 mod Pending
 mod ReadReplies

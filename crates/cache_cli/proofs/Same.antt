@@ -6,6 +6,7 @@ use Rattle.cache_model.specs.Items.{Item}
 use Rattle.cache_model.specs.Plain.{Plain}
 use Rattle.cache_model.specs.Images.{log_name, IsCounted, IsNewest, HasEntry, IsSound, Reads}
 use Rattle.cache_disk.specs.State.{SameFiles}
+use Rattle.cache_session.specs.Session.{Opens}
 
 module _ (d c : Image) (same : SameFiles d c) where
   counted : (n a : ℕ) (item : Item) → IsCounted d n a item → IsCounted c n a item
@@ -38,4 +39,16 @@ module _ (d c : Image) (same : SameFiles d c) where
     sound = sound_same reads.sound;
     entries = λ key. entry key _ (reads.entries key);
     mark = λ n a m is. reads.mark n a m (counted_back n a _ is);
+  }
+
+  -- what opens one of them opens the other
+  pub opens_back : (given : ℕ) (plain : Plain) → Opens d given plain → Opens c given plain
+  opens_back given plain opens = record {
+    entries = λ key. entry key _ (opens.entries key);
+    mark = opens.mark;
+    marked = record {
+      bound = λ n a m is. opens.marked.bound n a m (counted_back n a _ is);
+      reached = ⊎_elim (λ none. inl none) (λ some. inr (some.0, some.1, counted some.0 some.1 _ some.2)) opens.marked.reached;
+    };
+    moment = opens.moment;
   }

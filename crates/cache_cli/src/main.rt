@@ -5,6 +5,7 @@
 mod file_names;
 mod folder_host;
 mod handles;
+mod laws;
 mod line;
 mod line_reader;
 mod replies;

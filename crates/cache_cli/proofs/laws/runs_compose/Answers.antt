@@ -1,0 +1,9 @@
+use Rattle.cache_cli.proofs.Composing.{still_sound, opens_same}
+use Rattle.cache_cli.proofs.laws.runs_compose.Goals as goal
+
+pub returns-clause-begins : goal.returns-clause-begins
+returns-clause-begins g c = λ from to next given script turn image holds start end left same.
+    still_sound (g.H.Host.state from) given script ((g.H.Host.state to).said turn) image (g.H.Host.state next) (holds.each turn image start end left) same
+
+pub returns-clause-opens : goal.returns-clause-opens
+returns-clause-opens g c = λ next given image plain same opens. opens_same image (g.H.Host.state next).files given plain same opens

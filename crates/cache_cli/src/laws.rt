@@ -1,0 +1,23 @@
+// What the contracts come to together, as laws: each function's contract is a fact, and its body is empty.
+ghost use Rattle.std.specs.Prelude.{◌≤◌, ℕ, List};
+ghost use Rattle.cache_model.specs.Files.{Image};
+ghost use Rattle.cache_model.specs.Images.{IsSound};
+ghost use Rattle.cache_model.specs.Plain.{Plain};
+ghost use Rattle.cache_disk.specs.State.{SameFiles};
+ghost use Rattle.cache_disk.specs.Calls.{AllLeft};
+ghost use Rattle.cache_session.specs.Session.{Opens};
+ghost use Rattle.cache_cli.specs.Talk.{HoldsThroughout};
+
+use cache_disk::Host;
+
+/// Runs compose: what a crash leaves at any turn of a run is a directory that the next run may begin on, and it opens
+/// with the entries and the mark of what was left.
+pub fn runs_compose<H: Host>()
+    ensures begins { (from to next : H) (given : ℕ) (script : List (List ℕ)) (turn : ℕ) (image : Image)
+        → HoldsThroughout (H.state from) (H.state to) given script
+        → (H.state from).turn ≤ turn → turn ≤ (H.state to).turn → (H.state to).left turn image
+        → AllLeft (H.state next) (λ left. SameFiles image left)
+        → AllLeft (H.state next) (λ left. IsSound left) }
+    ensures opens { (next : H) (given : ℕ) (image : Image) (plain : Plain)
+        → SameFiles image (H.state next).files → Opens (H.state next).files given plain → Opens image given plain }
+{}
