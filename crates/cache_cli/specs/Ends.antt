@@ -9,7 +9,7 @@ use Rattle.cache_model.specs.Files.{Image, file_in}
 use Rattle.cache_model.specs.DataFiles.{Frame, file_spelling}
 use Rattle.cache_model.specs.Lines.{Lacks, lines_of, command_of, units_of, units_of_length}
 use Rattle.cache_model.specs.Images.{log_name}
-use Rattle.cache_disk.specs.State.{HostState, SameBut}
+use Rattle.cache_disk.specs.State.{HostState, SameBut, SameFiles}
 use Rattle.cache_disk.specs.Calls.{and_then_said}
 use Rattle.cache_session.specs.Opening.{IsForeign, IsFirstDamageOf}
 use Rattle.cache_cli.specs.Damages.{damage_line}
@@ -83,6 +83,10 @@ pub record EndsTaken (from to : HostState) (given : ℕ) (script : List (List �
 -- nothing was said
 abbrev pub IsSilent : HostState → HostState → Type 0
 IsSilent from to = to.said to.turn ≡ from.said from.turn
+
+-- nothing was said, and the files are as they were
+abbrev pub IsUnused : HostState → HostState → Type 0
+IsUnused from to = IsSilent from to × SameFiles from.files to.files
 
 -- a run was cut short, before it began or behind the first lines of the script
 abbrev pub IsCutShort : HostState → HostState → ℕ → List (List ℕ) → Type 0

@@ -7,7 +7,7 @@ ghost use Rattle.cache_disk.specs.Calls.{AllLeft};
 ghost use Rattle.cache_session.specs.Session.{is_session_spoilt, IsUsable, IsSessionStanding};
 ghost use Rattle.cache_session.specs.Opening.{IsForeign, IsFirstDamageOf};
 ghost use Rattle.cache_cli.specs.Causes.{CauseOf, HostCauseOf, HasHostCause, HasCause};
-ghost use Rattle.cache_cli.specs.Ends.{IsSilent, Ends, EndsForeign};
+ghost use Rattle.cache_cli.specs.Ends.{IsSilent, IsUnused, Ends, EndsForeign};
 ghost use Rattle.cache_cli.specs.Talk.{HoldsThroughout};
 ghost use Rattle.cache_cli.specs.Talking.{HoldsFrom, Begins, ended_by};
 ghost use Rattle.cache_cli.specs.Words.{words_moment};
@@ -31,6 +31,7 @@ pub fn serve<H: Host, S: Source>(
 ) -> Status
     // Other words than `--at` and a moment.
     ensures usage { words_moment (map string_bytes words.now) ≡ None → result ≡ status.Usage }
+    ensures unused { IsTrue H.tells → words_moment (map string_bytes words.now) ≡ None → IsUnused (H.state host.old) (H.state host.new) }
     // With good words: a directory with other files than data files.
     ensures foreign { IsTrue H.tells → (given : ℕ) → words_moment (map string_bytes words.now) ≡ Some given
         → IsForeign (H.state host.old).files → EndsForeign result }
