@@ -7,6 +7,7 @@ mod Pending
 mod ReadReplies
 mod Same
 mod Sessions
+mod SingleEntries
 mod SpentNumbers
 mod Stepping
 mod Taking

@@ -1,4 +1,4 @@
-use Rattle.cache_cli.proofs.Composing.{still_sound, opens_same}
+use Rattle.cache_cli.proofs.Composing.{still_sound, opens_same, reads_on}
 use Rattle.cache_cli.proofs.laws.runs_compose.Goals as goal
 
 pub returns-clause-begins : goal.returns-clause-begins
@@ -7,3 +7,7 @@ returns-clause-begins g c = λ from to next given script turn image holds start 
 
 pub returns-clause-opens : goal.returns-clause-opens
 returns-clause-opens g c = λ next given image plain same opens. opens_same image (g.H.Host.state next).files given plain same opens
+
+pub returns-clause-reads : goal.returns-clause-reads
+returns-clause-reads g c = λ next from given again script said image plain fits same opens.
+    reads_on (g.H.Host.state from) given again script said image (g.H.Host.state next).files plain fits same opens
