@@ -7,7 +7,7 @@ use Rattle.cache_model.specs.declared.faults.BadKind.TheVariants.{Place, Version
 use Rattle.cache_model.specs.Files.{Image}
 use Rattle.cache_model.specs.Items.{Item, put, removal, end, Front, whole, cut, bad, front}
 use Rattle.cache_model.specs.DataFiles.{Found, nothing, damaged, found_at_gate, found_behind, found_at_item, found_within, found_at_version, counted_items}
-use Rattle.cache_model.specs.Images.{IsCounted, sequence_of, entry_by, IsNoNewer, IsNewest, HasEntry, IsMark}
+use Rattle.cache_model.specs.Images.{IsCounted, sequence_of, entry_by, IsNoNewer, IsNewest, HasEntry}
 use Rattle.cache_model.proofs.Standing.{front-stands, standing-some}
 
 -- the items of a file stand at rising offsets: the first at least at this one, and each other above the one before
@@ -142,14 +142,3 @@ entry_is_single image key one other (inl none) (inr some) = absurd (none.0 some.
 entry_is_single image key one other (inr some) (inl none) = absurd (none.0 some.0 some.1 some.2 some.3.counted some.3.of_key)
 entry_is_single image key one other (inr is) (inr also) =
     is.4 ∙ ap entry_by (one_newest image key is.0 is.1 also.0 also.1 is.2 also.2 is.3 also.3) ∙ sym also.4
-
--- no mark of an image is above another
-mark_not_above : (image : Image) (one other : ℕ) → IsMark image one → IsMark image other → one ≤ other
-mark_not_above image one other is also = ⊎_elim
-    (λ none. omega (arith, none))
-    (λ some. also.bound some.0 some.1 one some.2)
-    is.reached
-
--- an image has one mark
-pub mark_is_single : (image : Image) (one other : ℕ) → IsMark image one → IsMark image other → one ≡ other
-mark_is_single image one other is also = omega (arith, mark_not_above image one other is also, mark_not_above image other one also is)
