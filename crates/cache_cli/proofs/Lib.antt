@@ -1,13 +1,9 @@
 mod Answering
 mod Beginning
-mod Commands
-mod LongLines
-mod Pending
 mod ReadReplies
 mod Same
 mod Sessions
 mod SpentNumbers
 mod Stepping
-mod Taking
 mod Talking
 mod Told

@@ -1,9 +1,5 @@
-pub mod Built
 pub mod Causes
-pub mod Damages
 pub mod Ends
-pub mod FileNames
-pub mod LineReader
 pub mod Saying
 pub mod Talk
 pub mod Talking
