@@ -19,10 +19,10 @@ use Rattle.cache_session.specs.declared.session.Session.{Session}
 use Rattle.cache_session.specs.Opening.{IsFirstDamageOf}
 use Rattle.cache_session.specs.Session.{moment_of, next_sequence, file_number}
 use Rattle.cache_session.specs.Started.{IsOpened}
-use Rattle.cache_cli.specs.declared.line_reader.LineReader.{LineReader}
+use Rattle.cache_script.specs.declared.line_reader.LineReader.{LineReader}
 use Rattle.cache_cli.proofs.Same.{sound_same}
-use Rattle.cache_cli.specs.Damages.{damage_line}
-use Rattle.cache_cli.specs.LineReader.{IsNew, unread, units_taken}
+use Rattle.cache_script.specs.Damages.{damage_line}
+use Rattle.cache_script.specs.LineReader.{IsNew, unread, units_taken}
 use Rattle.cache_cli.specs.Saying.{SaidBy, say_status}
 use Rattle.cache_cli.specs.Talk.{Talk, text_of, HoldsAtTurn, HoldsThroughout}
 use Rattle.cache_cli.specs.Ends.{IsSilent, EndsDamaged, Ends}

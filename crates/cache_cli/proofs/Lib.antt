@@ -1,15 +1,11 @@
 mod Answering
 mod Beginning
-mod Commands
 mod Composing
-mod LongLines
-mod Pending
 mod ReadReplies
 mod Same
 mod Sessions
 mod SingleEntries
 mod SpentNumbers
 mod Stepping
-mod Taking
 mod Talking
 mod Told

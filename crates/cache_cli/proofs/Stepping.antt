@@ -14,8 +14,8 @@ use Rattle.cache_disk.specs.Calls.{and_then_said}
 use Rattle.data_file.specs.declared.appender.Appender.{Appender}
 use Rattle.cache_session.specs.declared.session.Session.{Session}
 use Rattle.cache_session.specs.Session.{SessionStands, IsLogOf, IsFileOf}
-use Rattle.cache_cli.specs.declared.line_reader.LineReader.{LineReader}
-use Rattle.cache_cli.specs.LineReader.{unread, units_taken, TakesLine, Exhausts}
+use Rattle.cache_script.specs.declared.line_reader.LineReader.{LineReader}
+use Rattle.cache_script.specs.LineReader.{unread, units_taken, TakesLine, Exhausts}
 use Rattle.cache_cli.specs.Talk.{Talk, IsTalk, text_of, end_text, frames_in}
 use Rattle.cache_cli.specs.Ends.{Says, HoldsFrames, EndsWhole, EndsEarly, EndsTaken}
 use Rattle.cache_cli.specs.Talking.{HoldsFrom, IsTelling, IsTalking, IsInHand, EndsBy, Answered, IsTalkingOn, Stepped, Ran}
@@ -98,14 +98,14 @@ units-append lines line =
 -- the line that was taken is in hand
 pub has_line : (from : HostState) (given : ℕ) (script : List (List ℕ)) (talk : Talk) (session : Session) (now : HostState) (old new : LineReader) (rest_old rest_new : List ℕ) (line : List ℕ)
     → IsTalkingOn from given script talk session now old rest_old
-    → TakesLine line (unread old rest_old) (unread new rest_new) old.units new.units
+    → TakesLine line (unread old rest_old) (unread new rest_new) (units_taken old) (units_taken new)
     → IsTalking from given script (line ∷ lines_of (unread new rest_new)) talk session now
 has_line from given script talk session now old new rest_old rest_new line on takes = subst (λ (left : List (List ℕ)). IsTalking from given script left talk session now) takes.lines on.talking
 
 -- a line more was answered
 pub stepped_on : (from : HostState) (given : ℕ) (script : List (List ℕ)) (talk : Talk) (before session : Session) (a now : HostState) (old new : LineReader) (rest_old rest_new : List ℕ) (line : List ℕ)
     → IsTalkingOn from given script talk before a old rest_old
-    → TakesLine line (unread old rest_old) (unread new rest_new) old.units new.units
+    → TakesLine line (unread old rest_old) (unread new rest_new) (units_taken old) (units_taken new)
     → Answered from given script (lines_of (unread new rest_new)) talk line session now (Ok tt)
     → Stepped from given script session now new rest_new (Ok true)
 stepped_on from given script talk before session a now old new rest_old rest_new line on takes answered = record {

@@ -12,7 +12,7 @@ use Rattle.cache_model.specs.Images.{log_name}
 use Rattle.cache_disk.specs.State.{HostState, SameBut, SameFiles}
 use Rattle.cache_disk.specs.Calls.{and_then_said}
 use Rattle.cache_session.specs.Opening.{IsForeign, IsFirstDamageOf}
-use Rattle.cache_cli.specs.Damages.{damage_line}
+use Rattle.cache_script.specs.Damages.{damage_line}
 use Rattle.cache_cli.specs.Talk.{Talk, IsTalk, text_of, frames_in}
 
 -- Some frames whose first has this number, in the file with that number: none is numbered beyond the last sequence

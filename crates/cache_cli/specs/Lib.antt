@@ -1,10 +1,6 @@
-pub mod Built
 pub mod Causes
 pub mod Composing
-pub mod Damages
 pub mod Ends
-pub mod FileNames
-pub mod LineReader
 pub mod Saying
 pub mod Talk
 pub mod Talking

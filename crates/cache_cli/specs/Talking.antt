@@ -9,8 +9,8 @@ use Rattle.cache_disk.specs.Calls.{AllLeft, and_then_said}
 use Rattle.cache_session.specs.Session.{SessionStands, next_sequence, moment_of, file_number}
 use Rattle.cache_session.specs.Started.{IsOpened}
 use Rattle.cache_session.specs.declared.session.Session.{Session}
-use Rattle.cache_cli.specs.declared.line_reader.LineReader.{LineReader}
-use Rattle.cache_cli.specs.LineReader.{unread, units_taken}
+use Rattle.cache_script.specs.declared.line_reader.LineReader.{LineReader}
+use Rattle.cache_script.specs.LineReader.{unread, units_taken}
 use Rattle.cache_cli.specs.Talk.{Talk, IsTalk, plain_of, text_of, frames_in, HoldsThroughout}
 use Rattle.cache_cli.specs.Ends.{IsWithin, EndsWhole, EndsEarly, EndsSpent, EndsTaken, IsSilent}
 

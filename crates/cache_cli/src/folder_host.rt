@@ -4,10 +4,10 @@ ghost use Rattle.std.specs.IoError.{error_kind};
 ghost use Rattle.cache_model.specs.Files.{IsFileName};
 ghost use Rattle.cache_disk.specs.Calls.{HasCause};
 
-use crate::file_names::file_name_of;
 use crate::handles::Handles;
 use cache_disk::{Host, HostFault};
 use cache_model::FileName;
+use cache_script::file_name_of;
 use std::alloc::Global;
 use std::fs::{File, Files};
 use std::io::ErrorKind;

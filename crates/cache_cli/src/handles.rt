@@ -1,6 +1,6 @@
 // The files of a directory that are open.
-use crate::file_names::file_name_text;
 use cache_model::{FileKind, FileName};
+use cache_script::file_name_text;
 use std::alloc::{AllocError, Global};
 use std::collections::BTreeMap;
 use std::collections::btree_map::Entry;

@@ -2,13 +2,9 @@
 //! replies on its standard output, and ends with the status of the run.
 #![tactic(auto)]
 
-mod file_names;
 mod folder_host;
 mod handles;
 mod laws;
-mod line;
-mod line_reader;
-mod replies;
 mod serve;
 mod stdin_source;
 mod talk;

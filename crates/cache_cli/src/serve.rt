@@ -12,13 +12,11 @@ ghost use Rattle.cache_cli.specs.Talk.{HoldsThroughout};
 ghost use Rattle.cache_cli.specs.Talking.{HoldsFrom, Begins, ended_by};
 ghost use Rattle.cache_cli.specs.Words.{words_moment};
 
-use crate::file_names::file_name_text;
-use crate::line_reader::LineReader;
-use crate::replies::{damaged_line, opened_line};
 use crate::talk::{say, say_answer, talk};
 use crate::words::moment_of;
 use cache_disk::{Host, Source};
 use cache_model::{Damage, Status, StoreFault};
+use cache_script::{LineReader, damaged_line, file_name_text, opened_line};
 use cache_session::{Session, StartFault};
 use std::alloc::Global;
 

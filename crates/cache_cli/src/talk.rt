@@ -6,18 +6,16 @@ ghost use Rattle.cache_model.specs.declared.entries.Lifespan.TheVariants.{Endles
 ghost use Rattle.cache_model.specs.Lines.{command_of, lines_of};
 ghost use Rattle.cache_model.specs.Replies.{line_of, refusal_text, memory};
 ghost use Rattle.cache_session.specs.Session.{is_session_spoilt, IsUsable, IsSessionStanding};
-ghost use Rattle.cache_cli.specs.Built.{IsBuilt};
+ghost use Rattle.cache_script.specs.Built.{IsBuilt};
 ghost use Rattle.cache_cli.specs.Causes.{HasHostCause, HasCause};
-ghost use Rattle.cache_cli.specs.LineReader.{units_taken, unread};
+ghost use Rattle.cache_script.specs.LineReader.{units_taken, unread};
 ghost use Rattle.cache_cli.specs.Saying.{SaidBy};
 ghost use Rattle.cache_cli.specs.Talk.{Talk};
 ghost use Rattle.cache_cli.specs.Talking.{HoldsFrom, IsTalking, IsInHand, Told, Answered, IsTalkingOn, Stepped, Ran};
 
-use crate::line::{LineFault, read_line};
-use crate::line_reader::{LineReader, ReadFault, Taken};
-use crate::replies::read_reply_line;
 use cache_disk::{Host, HostFault, Source};
 use cache_model::{Command, Key, Status, StoreFault, Value};
+use cache_script::{LineFault, LineReader, ReadFault, Taken, read_line, read_reply_line};
 use cache_session::Session;
 use std::alloc::Global;
 

@@ -4,8 +4,8 @@ ghost use Rattle.cache_model.specs.Files.{IsFileName};
 ghost use Rattle.host_memory.specs.Files.{are_named_apart};
 
 use super::*;
-use crate::file_names::file_name_of;
 use cache_model::FileName;
+use cache_script::file_name_of;
 use host_memory::{DiskFile, MemoryHost, MemorySource};
 use std::process::Abort;
 use std::test::Fail;

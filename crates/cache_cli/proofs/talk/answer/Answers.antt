@@ -2,8 +2,8 @@ use Rattle.std.proofs.Common.{◌∙◌, ap, subst, Some}
 use Rattle.cache_model.specs.declared.entries.Lifespan.{Lifespan}
 use Rattle.cache_model.specs.declared.commands.Command.{Command}
 use Rattle.cache_model.specs.declared.commands.Command.TheVariants.{Put}
-use Rattle.cache_cli.specs.Built.{IsBuilt}
-use Rattle.cache_cli.proofs.Commands.{endless}
+use Rattle.cache_script.specs.Built.{IsBuilt}
+use Rattle.cache_script.proofs.Commands.{endless}
 use Rattle.cache_cli.proofs.talk.answer.Goals as goal
 
 pub returns-in-Put-clause-answered : goal.returns-in-Put-clause-answered

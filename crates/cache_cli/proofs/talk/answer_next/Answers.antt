@@ -1,10 +1,10 @@
 use Rattle.std.proofs.Common.{◌≡◌, refl, sym, ◌∙◌, ap, subst, [], ◌∷◌, List, ℕ, None}
 use Rattle.cache_model.specs.Lines.{lines_of}
 use Rattle.cache_model.specs.Replies.{refused, syntax}
-use Rattle.cache_cli.specs.declared.line_reader.Taken.{Taken}
-use Rattle.cache_cli.specs.LineReader.{unread, TakesLine, Takes}
+use Rattle.cache_script.specs.declared.line_reader.Taken.{Taken}
+use Rattle.cache_script.specs.LineReader.{unread, units_taken, TakesLine, Takes}
 use Rattle.cache_cli.proofs.Answering.{in_hand_still}
-use Rattle.cache_cli.proofs.LongLines.{long_line}
+use Rattle.cache_script.proofs.LongLines.{long_line}
 use Rattle.cache_cli.proofs.Stepping.{units_fit, in_hand_end, ends_whole, has_line, stepped_on, stepped_out, ends_taken}
 use Rattle.cache_cli.proofs.Told.{answered, ends_early, ends_saying}
 use Rattle.cache_cli.proofs.talk.answer_next.Goals as goal
@@ -17,8 +17,8 @@ returns-in_ok-respond-in-Ok-Line-clause-answered g c = λ tells told from given 
     let rest_new = g.S.Source.rest c.next.new.source in
     let old = c.args.reader.now in
     let new = c.next.new.self in
-    let took = subst (λ (t : Taken). Takes t (unread old rest_old) (unread new rest_new) old.units new) c.in-Ok-Line.field-0-is (c.in-Ok-Line.ensures.told told) in
-    let takes = subst (λ (line : List ℕ). TakesLine line (unread old rest_old) (unread new rest_new) old.units new.units) (sym c.line.ensures) took.0 in
+    let took = subst (λ (t : Taken). Takes t (unread old rest_old) (unread new rest_new) (units_taken old) new) c.in-Ok-Line.field-0-is (c.in-Ok-Line.ensures.told told) in
+    let takes = subst (λ (line : List ℕ). TakesLine line (unread old rest_old) (unread new rest_new) (units_taken old) (units_taken new)) (sym c.line.ensures) took.0 in
     let line = c.line.result.now in
     let talking = has_line start given lines talk c.args.session.now a old new rest_old rest_new line on takes in
     let answer = c.in_ok-respond-in-Ok-Line.ensures.answered tells from given lines (lines_of (unread new rest_new)) talk talking in
@@ -32,8 +32,8 @@ returns-in_err-respond-in-Ok-Line-clause-answered g c = λ tells told from given
     let rest_new = g.S.Source.rest c.next.new.source in
     let old = c.args.reader.now in
     let new = c.next.new.self in
-    let took = subst (λ (t : Taken). Takes t (unread old rest_old) (unread new rest_new) old.units new) c.in-Ok-Line.field-0-is (c.in-Ok-Line.ensures.told told) in
-    let takes = subst (λ (line : List ℕ). TakesLine line (unread old rest_old) (unread new rest_new) old.units new.units) (sym c.line.ensures) took.0 in
+    let took = subst (λ (t : Taken). Takes t (unread old rest_old) (unread new rest_new) (units_taken old) new) c.in-Ok-Line.field-0-is (c.in-Ok-Line.ensures.told told) in
+    let takes = subst (λ (line : List ℕ). TakesLine line (unread old rest_old) (unread new rest_new) (units_taken old) (units_taken new)) (sym c.line.ensures) took.0 in
     let line = c.line.result.now in
     let talking = has_line start given lines talk c.args.session.now a old new rest_old rest_new line on takes in
     let answer = c.in_err-respond-in-Ok-Line.ensures.answered tells from given lines (lines_of (unread new rest_new)) talk talking in
@@ -46,7 +46,7 @@ returns-in-Ok-Spent-clause-answered g c = λ tells told from given lines talk on
     let rest_new = g.S.Source.rest c.next.new.source in
     let old = c.args.reader.now in
     let new = c.next.new.self in
-    let took = subst (λ (t : Taken). Takes t (unread old rest_old) (unread new rest_new) old.units new) c.in-Ok-Spent.field-0-is (c.in-Ok-Spent.ensures.told told) in
+    let took = subst (λ (t : Taken). Takes t (unread old rest_old) (unread new rest_new) (units_taken old) new) c.in-Ok-Spent.field-0-is (c.in-Ok-Spent.ensures.told told) in
     record {
       goes = tt;
       ends = ends_taken (g.H.Host.state from) given lines talk c.args.session.now a old rest_old on took;
@@ -72,7 +72,7 @@ returns-in_ok-say_answer-in-Ok-Long-clause-answered g c = λ tells told from giv
     let rest_new = g.S.Source.rest c.next.new.source in
     let old = c.args.reader.now in
     let new = c.next.new.self in
-    let took = subst (λ (t : Taken). Takes t (unread old rest_old) (unread new rest_new) old.units new) c.in-Ok-Long.field-0-is (c.in-Ok-Long.ensures.told told) in
+    let took = subst (λ (t : Taken). Takes t (unread old rest_old) (unread new rest_new) (units_taken old) new) c.in-Ok-Long.field-0-is (c.in-Ok-Long.ensures.told told) in
     let line = took.0 in
     let talking = has_line start given lines talk session a old new rest_old rest_new line on took.1 in
     let hand = in_hand_still start given lines (lines_of (unread new rest_new)) talk line None (refused syntax) session a talking (long_line line took.2) refl refl refl in
@@ -88,7 +88,7 @@ returns-in_err-say_answer-in-Ok-Long-clause-answered g c = λ tells told from gi
     let rest_new = g.S.Source.rest c.next.new.source in
     let old = c.args.reader.now in
     let new = c.next.new.self in
-    let took = subst (λ (t : Taken). Takes t (unread old rest_old) (unread new rest_new) old.units new) c.in-Ok-Long.field-0-is (c.in-Ok-Long.ensures.told told) in
+    let took = subst (λ (t : Taken). Takes t (unread old rest_old) (unread new rest_new) (units_taken old) new) c.in-Ok-Long.field-0-is (c.in-Ok-Long.ensures.told told) in
     let line = took.0 in
     let talking = has_line start given lines talk session a old new rest_old rest_new line on took.1 in
     let hand = in_hand_still start given lines (lines_of (unread new rest_new)) talk line None (refused syntax) session a talking (long_line line took.2) refl refl refl in
@@ -105,11 +105,11 @@ returns-in_ok-say_answer-in-Ok-End-clause-answered g c = λ tells told from give
     let rest_new = g.S.Source.rest c.next.new.source in
     let old = c.args.reader.now in
     let new = c.next.new.self in
-    let took = subst (λ (t : Taken). Takes t (unread old rest_old) (unread new rest_new) old.units new) c.in-Ok-End.field-0-is (c.in-Ok-End.ensures.told told) in
+    let took = subst (λ (t : Taken). Takes t (unread old rest_old) (unread new rest_new) (units_taken old) new) c.in-Ok-End.field-0-is (c.in-Ok-End.ensures.told told) in
     let hand = in_hand_end start given lines (lines_of (unread old rest_old)) talk session a on.talking (ap lines_of took.0) in
     let said = c.in_ok-say_answer-in-Ok-End.ensures.told tells from given lines [] _ hand in
     record {
-      goes = ends_whole start given lines talk session (g.H.Host.state now) said.goes (g.met.H.Host.reads_now now tells) c.requires.usable (units_fit old.units talk on.units took.3);
+      goes = ends_whole start given lines talk session (g.H.Host.state now) said.goes (g.met.H.Host.reads_now now tells) c.requires.usable (units_fit (units_taken old) talk on.units took.3);
       ends = tt;
       holds = said.holds;
     }
@@ -124,7 +124,7 @@ returns-in_err-say_answer-in-Ok-End-clause-answered g c = λ tells told from giv
     let rest_new = g.S.Source.rest c.next.new.source in
     let old = c.args.reader.now in
     let new = c.next.new.self in
-    let took = subst (λ (t : Taken). Takes t (unread old rest_old) (unread new rest_new) old.units new) c.in-Ok-End.field-0-is (c.in-Ok-End.ensures.told told) in
+    let took = subst (λ (t : Taken). Takes t (unread old rest_old) (unread new rest_new) (units_taken old) new) c.in-Ok-End.field-0-is (c.in-Ok-End.ensures.told told) in
     let hand = in_hand_end start given lines (lines_of (unread old rest_old)) talk session a on.talking (ap lines_of took.0) in
     let said = c.in_err-say_answer-in-Ok-End.ensures.told tells from given lines [] _ hand in
     let ended = c.in_err-say_answer-in-Ok-End.field-0.0 in

@@ -9,7 +9,7 @@ use Rattle.cache_disk.proofs.Runs.{Silent-at}
 use Rattle.cache_session.specs.Session.{is_session_spoilt, IsSessionStanding, frame_of, next_sequence, moment_of}
 use Rattle.cache_cli.specs.Talk.{plain_of, frames_in}
 use Rattle.cache_cli.proofs.Answering.{in_hand, in_hand_kept}
-use Rattle.cache_cli.proofs.Commands.{put_short}
+use Rattle.cache_script.proofs.Commands.{put_short}
 use Rattle.cache_cli.proofs.SpentNumbers.{within_put, ok_not_err}
 use Rattle.cache_cli.proofs.Sessions.{on_ok}
 use Rattle.cache_cli.proofs.Told.{answered, put_holds, ends_early, ends_spent}

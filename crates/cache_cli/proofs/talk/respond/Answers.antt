@@ -1,7 +1,7 @@
 use Rattle.std.proofs.Common.{inr, refl, Some, None, Err}
 use Rattle.cache_model.specs.Replies.{refused, syntax, memory}
 use Rattle.cache_cli.proofs.Answering.{in_hand_still}
-use Rattle.cache_cli.proofs.Commands.{command_there}
+use Rattle.cache_script.proofs.Commands.{command_there}
 use Rattle.cache_cli.proofs.Told.{answered}
 use Rattle.cache_cli.proofs.talk.respond.Goals as goal
 

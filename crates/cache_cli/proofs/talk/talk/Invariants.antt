@@ -1,7 +1,7 @@
 use Rattle.std.proofs.Common.{◌≡◌, ◌-◌, ◌^◌, ℕ, List, false, IsTrue}
 use Rattle.cache_session.specs.Session.{is_session_spoilt, IsUsable, IsSessionStanding}
 use Rattle.cache_cli.specs.Causes.{Unfaulted}
-use Rattle.cache_cli.specs.LineReader.{units_taken}
+use Rattle.cache_script.specs.LineReader.{units_taken}
 use Rattle.cache_cli.specs.Talk.{Talk}
 use Rattle.cache_cli.specs.Talking.{IsTalkingOn}
 use Rattle.cache_cli.proofs.talk.talk.Given as goal

@@ -1,0 +1,4 @@
+pub mod Commands
+pub mod LongLines
+mod Pending
+mod Taking

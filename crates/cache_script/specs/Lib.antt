@@ -1,0 +1,4 @@
+pub mod Built
+pub mod Damages
+pub mod FileNames
+pub mod LineReader
