@@ -1,9 +1,8 @@
 -- One answer more.
-use Rattle.std.proofs.Common.{◌≡◌, ◌⊎◌, inl, inr, ⊎_elim, ℕ, ◌+◌, ◌<◌, ◌≤◌, Bool, true, false, List, [], ◌∷◌, ◌++◌, length, Option, Some, None, Result, Ok, Err, refl, sym, ◌∙◌, ap, subst, arith, length-append, append_assoc}
-use Rattle.std.specs.Prelude.{flat_map, option_map, option_to_list}
+use Rattle.std.proofs.Common.{◌≡◌, inr, ℕ, ◌+◌, false, List, [], ◌∷◌, ◌++◌, length, Option, Some, None, Result, Ok, Err, refl, sym, ◌∙◌, ap, subst, arith, length-append, append_assoc}
+use Rattle.std.specs.Prelude.{option_to_list}
 use Rattle.std.proofs.lemmas.List.{append-nil}
 use Rattle.cache_model.specs.declared.commands.Command.{Command}
-use Rattle.cache_model.specs.declared.commands.Command.TheVariants.{Put, Get}
 use Rattle.cache_model.specs.Files.{Image}
 use Rattle.cache_model.specs.DataFiles.{Frame}
 use Rattle.cache_model.specs.Plain.{Plain, plain_after, plain_after_all}
@@ -18,12 +17,12 @@ use Rattle.cache_disk.specs.Calls.{Said, and_then_said}
 use Rattle.cache_disk.proofs.Runs.{SameBut-same, SameBut-trans, SameBut-files}
 use Rattle.cache_session.specs.declared.session.Session.{Session}
 use Rattle.cache_session.specs.Session.{SessionStands, next_sequence, moment_of, file_number}
-use Rattle.cache_cli.specs.Talk.{Talk, IsTalk, done_in, plain_of, text_of, end_text, frames_of, frames_in, command_in_hand, FitsTalk, IsUntouched, HoldsAtTurn, HoldsThroughout, frame_by}
+use Rattle.cache_cli.specs.Talk.{Talk, IsTalk, done_in, plain_of, text_of, end_text, frames_of, frames_in, command_in_hand, HoldsAtTurn, frame_by}
 use Rattle.cache_cli.specs.Ends.{IsWithin}
 use Rattle.cache_cli.specs.Talking.{HoldsFrom, IsTelling, IsTalking, IsInHand}
 use Rattle.cache_model.specs.Prefix.{FitsPrefix, promised_changes}
 use Rattle.cache_cli.proofs.Same.{sound_same, reads_same}
-use Rattle.cache_cli.proofs.Talking.{fits-all, fits-more, goes_on, goes_on_silent}
+use Rattle.cache_cli.proofs.Talking.{fits-all, fits-more, goes_on_silent}
 
 -- a talk with one answer more
 abbrev pub with_answer : Talk → List ℕ → Response → Talk

@@ -1,5 +1,5 @@
 -- How a run begins: a session is opened, and nothing was said.
-use Rattle.std.proofs.Common.{◌≡◌, ◌⊎◌, inl, inr, ⊎_elim, ℕ, ◌+◌, ◌<◌, ◌≤◌, ◌^◌, Bool, true, false, List, [], ◌∷◌, ◌++◌, length, Option, Some, None, Result, Ok, Err, refl, sym, ◌∙◌, ap, subst, arith}
+use Rattle.std.proofs.Common.{◌≡◌, inl, inr, ⊎_elim, ℕ, false, List, [], ◌++◌, Option, Some, None, Result, Ok, Err, refl, sym, ◌∙◌, ap, subst, arith}
 use Rattle.std.specs.Prelude.{IsErr, IsErrAnd}
 use Rattle.std.proofs.lemmas.Bool.{cases_lt}
 use Rattle.std.proofs.lemmas.List.{append-nil}
@@ -13,8 +13,8 @@ use Rattle.cache_model.specs.Replies.{opened_line}
 use Rattle.cache_disk.specs.declared.host.HostFault.{HostFault}
 use Rattle.cache_disk.specs.declared.host.HostFault.TheVariants.{Failed, Memory}
 use Rattle.cache_disk.specs.State.{HostState, SameFiles, Silent, Moves}
-use Rattle.cache_disk.specs.Calls.{AllLeft, Said, and_then_said}
-use Rattle.cache_disk.proofs.Runs.{Silent-at, SameBut-files}
+use Rattle.cache_disk.specs.Calls.{Said, and_then_said}
+use Rattle.cache_disk.proofs.Runs.{SameBut-files}
 use Rattle.cache_session.specs.declared.session.Session.{Session}
 use Rattle.cache_session.specs.Opening.{IsFirstDamageOf}
 use Rattle.cache_session.specs.Session.{moment_of, next_sequence, file_number}
@@ -22,9 +22,9 @@ use Rattle.cache_session.specs.Started.{IsOpened}
 use Rattle.cache_script.specs.declared.line_reader.LineReader.{LineReader}
 use Rattle.cache_cli.proofs.Same.{sound_same}
 use Rattle.cache_script.specs.Damages.{damage_line}
-use Rattle.cache_script.specs.LineReader.{IsNew, unread, units_taken}
+use Rattle.cache_script.specs.LineReader.{IsNew, unread}
 use Rattle.cache_cli.specs.Saying.{SaidBy, say_status}
-use Rattle.cache_cli.specs.Talk.{Talk, text_of, HoldsAtTurn, HoldsThroughout}
+use Rattle.cache_cli.specs.Talk.{Talk, text_of, HoldsAtTurn}
 use Rattle.cache_cli.specs.Ends.{IsSilent, EndsDamaged, Ends}
 use Rattle.cache_cli.specs.Talking.{HoldsFrom, IsTelling, IsInHand, EndsSaying, EndsBy, Begins, IsTalkingOn, Ran, ended_by}
 

@@ -1,5 +1,5 @@
 -- What a crash left of one run is where the next one may begin.
-use Rattle.std.proofs.Common.{◌≡◌, ◌≤◌, ℕ, List, Option, Some, None, sym, ◌∙◌, ap, arith}
+use Rattle.std.proofs.Common.{◌≤◌, ℕ, List, Option, Some, None, sym, ◌∙◌, ap, arith}
 use Rattle.std.specs.FinMap.{get}
 use Rattle.cache_model.specs.Files.{Image}
 use Rattle.cache_model.specs.Images.{IsSound}

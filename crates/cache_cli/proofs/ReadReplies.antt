@@ -1,5 +1,5 @@
 -- The reply to a read, and its line.
-use Rattle.std.proofs.Common.{◌≡◌, ℕ, List, Option, Some, None, sym, ◌∙◌, ap}
+use Rattle.std.proofs.Common.{◌≡◌, ℕ, List, Option, Some, None, ◌∙◌, ap}
 use Rattle.std.specs.FinMap.{get}
 use Rattle.cache_model.specs.declared.entries.Entry.{Entry}
 use Rattle.cache_model.specs.declared.replies.Reply.{Reply}

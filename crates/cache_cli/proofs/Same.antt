@@ -1,10 +1,10 @@
 -- Images with the same files say the same.
-use Rattle.std.proofs.Common.{◌≡◌, ◌⊎◌, ⊎_elim, inl, inr, ℕ, List, Option, Some, sym, ◌∙◌}
+use Rattle.std.proofs.Common.{⊎_elim, inl, inr, ℕ, List, Option, sym, ◌∙◌}
 use Rattle.cache_model.specs.declared.entries.Entry.{Entry}
 use Rattle.cache_model.specs.Files.{Image}
 use Rattle.cache_model.specs.Items.{Item}
 use Rattle.cache_model.specs.Plain.{Plain}
-use Rattle.cache_model.specs.Images.{log_name, IsCounted, IsNewest, HasEntry, IsSound, Reads}
+use Rattle.cache_model.specs.Images.{log_name, IsCounted, HasEntry, IsSound, Reads}
 use Rattle.cache_disk.specs.State.{SameFiles}
 use Rattle.cache_session.specs.Session.{Opens}
 

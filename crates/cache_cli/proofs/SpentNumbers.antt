@@ -2,7 +2,6 @@
 use Rattle.std.proofs.Common.{◌≡◌, ◌⊎◌, inl, inr, ℕ, ◌+◌, ◌-◌, ◌^◌, ◌<◌, ◌==◌, Bool, true, false, if◌then◌else◌, List, [], ◌∷◌, ◌++◌, length, Option, Some, None, Ok, Err, refl, sym, ◌∙◌, ap, arith, length-append, ◌≤◌}
 use Rattle.std.specs.Prelude.{nat_lt, flat_map}
 use Rattle.std.proofs.lemmas.Bool.Decides.{nat_tests}
-use Rattle.std.proofs.lemmas.List.{append-nil}
 use Rattle.cache_model.specs.declared.faults.Spent.{Spent}
 use Rattle.cache_model.specs.declared.faults.Spent.TheVariants.{Files, Sequence}
 use Rattle.cache_model.specs.DataFiles.{Frame, file_spelling, frame_spelling}
@@ -12,7 +11,7 @@ use Rattle.cache_model.proofs.Grammar.{lead_of, length-frame}
 use Rattle.cache_model.proofs.Spelled.{length-spelling}
 use Rattle.cache_disk.specs.State.{HostState}
 use Rattle.data_file.specs.declared.appender.Appender.{Appender}
-use Rattle.data_file.specs.Appending.{written, size_of}
+use Rattle.data_file.specs.Appending.{size_of}
 use Rattle.data_file.proofs.Bytes.{written-none, length-staged}
 use Rattle.cache_session.proofs.Standing.{unspent}
 use Rattle.cache_session.specs.declared.session.Session.{Session}

@@ -1,26 +1,27 @@
 -- One step of a run: a line more, or the end of the script.
-use Rattle.std.proofs.Common.{◌≡◌, ◌⊎◌, inl, inr, ℕ, ◌+◌, ◌^◌, ◌<◌, ◌≤◌, Bool, true, false, List, [], ◌∷◌, ◌++◌, length, Option, Some, None, Result, Ok, Err, refl, sym, ◌∙◌, ap, subst, arith, append_assoc}
+use Rattle.std.proofs.Common.{◌≡◌, inl, inr, ℕ, ◌+◌, ◌^◌, ◌<◌, Bool, true, false, List, [], ◌∷◌, ◌++◌, length, Option, Some, None, Result, Ok, Err, refl, sym, ◌∙◌, ap, subst, arith}
 use Rattle.std.specs.Prelude.{sum_by, IsErr, IsErrAnd}
 use Rattle.std.proofs.lemmas.List.{append-nil}
 use Rattle.std.proofs.lemmas.List.Sums.{sum_by-append, sum_by-cons}
 use Rattle.cache_model.specs.declared.replies.Status.{Status}
-use Rattle.cache_model.specs.Files.{Image, file_in}
-use Rattle.cache_model.specs.DataFiles.{Frame, file_spelling}
-use Rattle.cache_model.specs.Images.{log_name}
-use Rattle.cache_model.specs.Lines.{command_of, lines_of, units_of, units_of_length}
-use Rattle.cache_model.specs.Replies.{Response, refused, syntax, opened_line, response_lines, stopped_line}
+use Rattle.cache_model.specs.Files.{file_in}
+use Rattle.cache_model.specs.DataFiles.{Frame}
+use Rattle.cache_model.specs.Lines.{lines_of, units_of, units_of_length}
+use Rattle.cache_model.specs.Replies.{refused, syntax, opened_line, line_of, response_lines, response_text, stopped_line}
 use Rattle.cache_disk.specs.State.{HostState}
 use Rattle.cache_disk.specs.Calls.{and_then_said}
 use Rattle.data_file.specs.declared.appender.Appender.{Appender}
 use Rattle.cache_session.specs.declared.session.Session.{Session}
-use Rattle.cache_session.specs.Session.{SessionStands, IsLogOf, IsFileOf}
+use Rattle.cache_session.specs.Session.{IsLogOf, IsFileOf}
 use Rattle.cache_script.specs.declared.line_reader.LineReader.{LineReader}
 use Rattle.cache_script.specs.LineReader.{unread, units_taken, TakesLine, Exhausts}
 use Rattle.cache_cli.specs.Talk.{Talk, IsTalk, text_of, end_text, frames_in}
-use Rattle.cache_cli.specs.Ends.{Says, HoldsFrames, EndsWhole, EndsEarly, EndsTaken}
-use Rattle.cache_cli.specs.Talking.{HoldsFrom, IsTelling, IsTalking, IsInHand, EndsBy, Answered, IsTalkingOn, Stepped, Ran}
+use Rattle.cache_cli.specs.Ends.{HoldsFrames, EndsWhole, EndsTaken}
+use Rattle.cache_cli.specs.Talking.{HoldsFrom, IsTelling, IsTalking, IsInHand, EndsBy, Told, Answered, IsTalkingOn, Stepped, Ran}
 use Rattle.data_file.proofs.Bytes.{written-none}
-use Rattle.cache_cli.proofs.Answering.{said-append}
+use Rattle.cache_script.proofs.LongLines.{long_line}
+use Rattle.cache_cli.proofs.Answering.{with_answer, in_hand_still, said-append}
+use Rattle.cache_cli.proofs.Told.{answered}
 
 -- a talk whose end is answered
 abbrev pub with_end : Talk → Talk
@@ -101,6 +102,20 @@ pub has_line : (from : HostState) (given : ℕ) (script : List (List ℕ)) (talk
     → TakesLine line (unread old rest_old) (unread new rest_new) (units_taken old) (units_taken new)
     → IsTalking from given script (line ∷ lines_of (unread new rest_new)) talk session now
 has_line from given script talk session now old new rest_old rest_new line on takes = subst (λ (left : List (List ℕ)). IsTalking from given script left talk session now) takes.lines on.talking
+
+module _ (from : HostState) (given : ℕ) (script : List (List ℕ)) (talk : Talk) (session : Session) (a : HostState) (old new : LineReader) (rest_old rest_new : List ℕ) (line : List ℕ)
+    (on : IsTalkingOn from given script talk session a old rest_old)
+    (takes : TakesLine line (unread old rest_old) (unread new rest_new) (units_taken old) (units_taken new)) where
+  -- the refusal of a line that is too long is in hand
+  pub in_hand_long : 1048576 < length line → IsInHand from given script (lines_of (unread new rest_new)) (with_answer talk line (refused syntax)) (line_of (response_text (refused syntax))) session a
+  in_hand_long long =
+      in_hand_still from given script (lines_of (unread new rest_new)) talk line None (refused syntax) session a (has_line from given script talk session a old new rest_old rest_new line on takes) (long_line line long) refl refl refl
+
+  -- it is said
+  pub answered_long : (now : HostState) (result : Result (Unit {0}) Status) → Told from given script (lines_of (unread new rest_new)) (with_answer talk line (refused syntax)) session a now result
+      → Answered from given script (lines_of (unread new rest_new)) talk line session now result
+  answered_long now result told =
+      answered from given script (lines_of (unread new rest_new)) talk line (refused syntax) session session a a now result (has_line from given script talk session a old new rest_old rest_new line on takes) refl told
 
 -- a line more was answered
 pub stepped_on : (from : HostState) (given : ℕ) (script : List (List ℕ)) (talk : Talk) (before session : Session) (a now : HostState) (old new : LineReader) (rest_old rest_new : List ℕ) (line : List ℕ)

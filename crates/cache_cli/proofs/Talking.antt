@@ -1,5 +1,5 @@
 -- How a talk goes on, and what holds at every turn of it.
-use Rattle.std.proofs.Common.{◌≡◌, ◌⊎◌, inl, inr, ⊎_elim, ℕ, ◌+◌, ◌<◌, ◌≤◌, List, [], ◌∷◌, ◌++◌, length, Option, Some, None, refl, sym, ◌∙◌, ap, subst, arith, length-append, append_assoc}
+use Rattle.std.proofs.Common.{◌≡◌, ⊎_elim, ℕ, ◌<◌, ◌≤◌, List, [], ◌∷◌, ◌++◌, length, Option, refl, sym, ◌∙◌, ap, subst, arith, length-append}
 use Rattle.std.proofs.lemmas.Bool.{cases_lt}
 use Rattle.std.proofs.lemmas.List.{append-nil}
 use Rattle.std.specs.FinMap.{get}
@@ -8,11 +8,11 @@ use Rattle.cache_model.specs.declared.commands.Command.{Command}
 use Rattle.cache_model.specs.Files.{Image}
 use Rattle.cache_model.specs.Plain.{Plain, plain_after, plain_after_all, visible_at}
 use Rattle.cache_model.specs.Changes.{KeyChange, changes_of, entry_after}
-use Rattle.cache_model.specs.Images.{IsMark, IsSound, Reads}
+use Rattle.cache_model.specs.Images.{Reads}
 use Rattle.cache_model.specs.Prefix.{FitsPrefix, promised_changes}
 use Rattle.cache_model.proofs.Prefixes.{entry_after-commands, changes_of-append, plain_after_all-append}
 use Rattle.cache_disk.specs.State.{HostState, GoesOn, Moves}
-use Rattle.cache_cli.specs.Talk.{Talk, done_in, plain_of, HoldsAtTurn, HoldsThroughout}
+use Rattle.cache_cli.specs.Talk.{HoldsAtTurn, HoldsThroughout}
 
 -- an image that reads as the map after some commands fits them, and as many more
 pub fits-all : (image : Image) (opening : Plain) (commands more : List Command) (key : List ℕ) → Reads image (plain_after_all opening commands) → FitsPrefix image opening (commands ++ more) (promised_changes opening commands key) key

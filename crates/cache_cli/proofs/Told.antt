@@ -1,26 +1,19 @@
 -- How a line that was answered goes on or ends.
-use Rattle.std.proofs.Common.{◌≡◌, ◌⊎◌, inl, inr, ⊎_elim, ℕ, ◌+◌, ◌^◌, ◌-◌, ◌<◌, ◌==◌, Bool, true, false, if◌then◌else◌, List, [], ◌∷◌, ◌++◌, length, Option, Some, None, Result, Ok, Err, refl, sym, ◌∙◌, ap, subst, arith}
+use Rattle.std.proofs.Common.{◌≡◌, ⊎_elim, ℕ, ◌+◌, List, ◌∷◌, length, Some, Result, Ok, Err, refl, sym, ◌∙◌, subst}
 use Rattle.cache_model.specs.declared.replies.Status.{Status}
-use Rattle.cache_model.specs.declared.replies.Status.TheVariants as status
-use Rattle.cache_model.specs.declared.commands.Command.{Command}
 use Rattle.cache_model.specs.declared.commands.Command.TheVariants.{Put}
 use Rattle.cache_model.specs.declared.entries.Lifespan.TheVariants.{Endless}
-use Rattle.cache_model.specs.Files.{Image}
-use Rattle.cache_model.specs.Images.{Reads}
 use Rattle.cache_model.specs.Lines.{command_of}
 use Rattle.cache_model.specs.Replies.{Response}
-use Rattle.cache_disk.specs.declared.host.HostFault.{HostFault}
-use Rattle.cache_disk.specs.declared.host.HostFault.TheVariants.{Failed, Memory}
-use Rattle.cache_disk.specs.State.{HostState, SameFiles, Moves, Silent}
-use Rattle.cache_disk.specs.Calls.{Said}
+use Rattle.cache_disk.specs.State.{HostState, Moves, Silent}
 use Rattle.cache_session.specs.declared.session.Session.{Session}
 use Rattle.cache_model.specs.declared.faults.Spent.{Spent}
 use Rattle.cache_session.specs.Session.{ReadsOneOf, after_put, spent_by}
 use Rattle.cache_session.proofs.Standing.{session_said}
-use Rattle.cache_cli.specs.Saying.{SaidBy, say_status}
-use Rattle.cache_cli.specs.Talk.{Talk, plain_of, frames_in, HoldsAtTurn}
+use Rattle.cache_cli.specs.Saying.{SaidBy}
+use Rattle.cache_cli.specs.Talk.{Talk, plain_of, frames_in}
 use Rattle.cache_cli.specs.Ends.{EndsEarly, EndsSpent, IsSilent}
-use Rattle.cache_cli.specs.Talking.{HoldsFrom, IsTelling, IsTalking, IsInHand, EndsSaying, Told, EndsBy, TalksOn, Answered}
+use Rattle.cache_cli.specs.Talking.{HoldsFrom, IsTalking, IsInHand, EndsSaying, Told, EndsBy, Answered}
 use Rattle.cache_cli.proofs.Talking.{goes_on_silent}
 use Rattle.cache_cli.proofs.Beginning.{saying}
 use Rattle.cache_cli.proofs.SpentNumbers.{is_spent}

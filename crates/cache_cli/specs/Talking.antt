@@ -12,7 +12,7 @@ use Rattle.cache_session.specs.declared.session.Session.{Session}
 use Rattle.cache_script.specs.declared.line_reader.LineReader.{LineReader}
 use Rattle.cache_script.specs.LineReader.{unread, units_taken}
 use Rattle.cache_cli.specs.Talk.{Talk, IsTalk, plain_of, text_of, frames_in, HoldsThroughout}
-use Rattle.cache_cli.specs.Ends.{IsWithin, EndsWhole, EndsEarly, EndsSpent, EndsTaken, IsSilent}
+use Rattle.cache_cli.specs.Ends.{IsWithin, EndsWhole, EndsEarly, EndsSpent, EndsTaken, IsSilent, Ends}
 
 -- where no image that might be left at the beginning is damaged, each image since holds
 abbrev pub HoldsFrom : HostState → HostState → ℕ → List (List ℕ) → Type 0
@@ -106,4 +106,9 @@ pub record Begins (from : HostState) (given : ℕ) (script : List (List ℕ)) (s
   pub opened : IsOpened from now given session
   pub files : SameFiles from.files now.files
   pub silent : IsSilent from now
+  pub holds : HoldsFrom from now given script
+
+-- A run ended, and each image since it began holds.
+pub record Finished (from : HostState) (given : ℕ) (script : List (List ℕ)) (now : HostState) (result : Result (Unit {0}) Status) : Type 0 where
+  pub ends : Ends (ended_by result) from now given script
   pub holds : HoldsFrom from now given script

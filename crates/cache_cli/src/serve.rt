@@ -9,7 +9,7 @@ ghost use Rattle.cache_session.specs.Opening.{IsForeign, IsFirstDamageOf};
 ghost use Rattle.cache_cli.specs.Causes.{CauseOf, HostCauseOf, HasHostCause, HasCause};
 ghost use Rattle.cache_cli.specs.Ends.{IsSilent, IsUnused, Ends, EndsForeign};
 ghost use Rattle.cache_cli.specs.Talk.{HoldsThroughout};
-ghost use Rattle.cache_cli.specs.Talking.{HoldsFrom, Begins, ended_by};
+ghost use Rattle.cache_cli.specs.Talking.{HoldsFrom, Begins, Finished};
 ghost use Rattle.cache_cli.specs.Words.{words_moment};
 
 use crate::talk::{say, say_answer, talk};
@@ -76,12 +76,9 @@ fn converse<H: Host, S: Source>(
     requires sound { is_session_spoilt session ≡ false }
     requires usable { IsUsable session }
     requires stands { IsTrue H.tells → IsSessionStanding session (H.state host.old) }
-    ensures ends { IsTrue H.tells → IsTrue S.tells → (from : H) (given : ℕ)
+    ensures finished { IsTrue H.tells → IsTrue S.tells → (from : H) (given : ℕ)
         → Begins (H.state from) given (lines_of (S.rest script.old)) session (H.state host.old)
-        → Ends (ended_by result) (H.state from) (H.state host.new) given (lines_of (S.rest script.old)) }
-    ensures holds { IsTrue H.tells → IsTrue S.tells → (from : H) (given : ℕ)
-        → Begins (H.state from) given (lines_of (S.rest script.old)) session (H.state host.old)
-        → HoldsFrom (H.state from) (H.state host.new) given (lines_of (S.rest script.old)) }
+        → Finished (H.state from) given (lines_of (S.rest script.old)) (H.state host.new) result }
     ensures cause { HasCause (H.state host.old) (H.state host.new) (S.faults script.old) (S.faults script.new) result }
 {
     let mut session = session;

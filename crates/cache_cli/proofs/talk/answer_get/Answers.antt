@@ -1,4 +1,4 @@
-use Rattle.std.proofs.Common.{◌≡◌, inl, inr, refl, sym, ◌∙◌, ◌∷◌, [], List, ℕ, Some, subst}
+use Rattle.std.proofs.Common.{◌≡◌, inl, inr, refl, sym, ◌∙◌, ◌∷◌, List, ℕ, Some, subst}
 use Rattle.cache_model.specs.declared.commands.Command.TheVariants.{Get}
 use Rattle.cache_model.specs.Plain.{visible_entry, found}
 use Rattle.cache_model.specs.Replies.{replies, refused, memory, line_of, reply_text}

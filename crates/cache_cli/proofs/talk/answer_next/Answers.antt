@@ -1,12 +1,11 @@
-use Rattle.std.proofs.Common.{◌≡◌, refl, sym, ◌∙◌, ap, subst, [], ◌∷◌, List, ℕ, None}
+use Rattle.std.proofs.Common.{Ok, Err, refl, sym, ap, subst, [], List, ℕ}
 use Rattle.cache_model.specs.Lines.{lines_of}
 use Rattle.cache_model.specs.Replies.{refused, syntax}
 use Rattle.cache_script.specs.declared.line_reader.Taken.{Taken}
 use Rattle.cache_script.specs.LineReader.{unread, units_taken, TakesLine, Takes}
-use Rattle.cache_cli.proofs.Answering.{in_hand_still}
-use Rattle.cache_script.proofs.LongLines.{long_line}
-use Rattle.cache_cli.proofs.Stepping.{units_fit, in_hand_end, ends_whole, has_line, stepped_on, stepped_out, ends_taken}
-use Rattle.cache_cli.proofs.Told.{answered, ends_early, ends_saying}
+use Rattle.cache_cli.proofs.Answering.{with_answer}
+use Rattle.cache_cli.proofs.Stepping.{units_fit, with_end, in_hand_end, in_hand_long, answered_long, ends_whole, has_line, stepped_on, stepped_out, ends_taken}
+use Rattle.cache_cli.proofs.Told.{ends_early, ends_saying}
 use Rattle.cache_cli.proofs.talk.answer_next.Goals as goal
 
 pub returns-in_ok-respond-in-Ok-Line-clause-answered : goal.returns-in_ok-respond-in-Ok-Line-clause-answered
@@ -74,9 +73,9 @@ returns-in_ok-say_answer-in-Ok-Long-clause-answered g c = λ tells told from giv
     let new = c.next.new.self in
     let took = subst (λ (t : Taken). Takes t (unread old rest_old) (unread new rest_new) (units_taken old) new) c.in-Ok-Long.field-0-is (c.in-Ok-Long.ensures.told told) in
     let line = took.0 in
-    let talking = has_line start given lines talk session a old new rest_old rest_new line on took.1 in
-    let hand = in_hand_still start given lines (lines_of (unread new rest_new)) talk line None (refused syntax) session a talking (long_line line took.2) refl refl refl in
-    let answer = answered start given lines (lines_of (unread new rest_new)) talk line (refused syntax) session session a a (g.H.Host.state c.say_answer.new.host) _ talking refl (c.in_ok-say_answer-in-Ok-Long.ensures.told tells from given lines (lines_of (unread new rest_new)) _ hand) in
+    let hand = in_hand_long start given lines talk session a old new rest_old rest_new line on took.1 took.2 in
+    let said = c.in_ok-say_answer-in-Ok-Long.ensures.told tells from given lines (lines_of (unread new rest_new)) (with_answer talk line (refused syntax)) hand in
+    let answer = answered_long start given lines talk session a old new rest_old rest_new line on took.1 (g.H.Host.state c.say_answer.new.host) (Ok tt) said in
     stepped_on start given lines talk session session a (g.H.Host.state c.say_answer.new.host) old new rest_old rest_new line on took.1 answer
 
 pub returns-in_err-say_answer-in-Ok-Long-clause-answered : goal.returns-in_err-say_answer-in-Ok-Long-clause-answered
@@ -90,9 +89,9 @@ returns-in_err-say_answer-in-Ok-Long-clause-answered g c = λ tells told from gi
     let new = c.next.new.self in
     let took = subst (λ (t : Taken). Takes t (unread old rest_old) (unread new rest_new) (units_taken old) new) c.in-Ok-Long.field-0-is (c.in-Ok-Long.ensures.told told) in
     let line = took.0 in
-    let talking = has_line start given lines talk session a old new rest_old rest_new line on took.1 in
-    let hand = in_hand_still start given lines (lines_of (unread new rest_new)) talk line None (refused syntax) session a talking (long_line line took.2) refl refl refl in
-    let answer = answered start given lines (lines_of (unread new rest_new)) talk line (refused syntax) session session a a (g.H.Host.state c.say_answer.new.host) _ talking refl (c.in_err-say_answer-in-Ok-Long.ensures.told tells from given lines (lines_of (unread new rest_new)) _ hand) in
+    let hand = in_hand_long start given lines talk session a old new rest_old rest_new line on took.1 took.2 in
+    let said = c.in_err-say_answer-in-Ok-Long.ensures.told tells from given lines (lines_of (unread new rest_new)) (with_answer talk line (refused syntax)) hand in
+    let answer = answered_long start given lines talk session a old new rest_old rest_new line on took.1 (g.H.Host.state c.say_answer.new.host) (Err c.in_err-say_answer-in-Ok-Long.field-0.0) said in
     stepped_out start given lines session (g.H.Host.state c.say_answer.new.host) new rest_new c.in_err-say_answer-in-Ok-Long.field-0.0 c.from_residual-in_err-say_answer-in-Ok-Long.result c.from_residual-in_err-say_answer-in-Ok-Long.ensures answer.ends answer.holds
 
 pub returns-in_ok-say_answer-in-Ok-End-clause-answered : goal.returns-in_ok-say_answer-in-Ok-End-clause-answered
@@ -107,7 +106,7 @@ returns-in_ok-say_answer-in-Ok-End-clause-answered g c = λ tells told from give
     let new = c.next.new.self in
     let took = subst (λ (t : Taken). Takes t (unread old rest_old) (unread new rest_new) (units_taken old) new) c.in-Ok-End.field-0-is (c.in-Ok-End.ensures.told told) in
     let hand = in_hand_end start given lines (lines_of (unread old rest_old)) talk session a on.talking (ap lines_of took.0) in
-    let said = c.in_ok-say_answer-in-Ok-End.ensures.told tells from given lines [] _ hand in
+    let said = c.in_ok-say_answer-in-Ok-End.ensures.told tells from given lines [] (with_end talk) hand in
     record {
       goes = ends_whole start given lines talk session (g.H.Host.state now) said.goes (g.met.H.Host.reads_now now tells) c.requires.usable (units_fit (units_taken old) talk on.units took.3);
       ends = tt;
@@ -126,7 +125,7 @@ returns-in_err-say_answer-in-Ok-End-clause-answered g c = λ tells told from giv
     let new = c.next.new.self in
     let took = subst (λ (t : Taken). Takes t (unread old rest_old) (unread new rest_new) (units_taken old) new) c.in-Ok-End.field-0-is (c.in-Ok-End.ensures.told told) in
     let hand = in_hand_end start given lines (lines_of (unread old rest_old)) talk session a on.talking (ap lines_of took.0) in
-    let said = c.in_err-say_answer-in-Ok-End.ensures.told tells from given lines [] _ hand in
+    let said = c.in_err-say_answer-in-Ok-End.ensures.told tells from given lines [] (with_end talk) hand in
     let ended = c.in_err-say_answer-in-Ok-End.field-0.0 in
     stepped_out start given lines session now new rest_new ended c.from_residual-in_err-say_answer-in-Ok-End.result c.from_residual-in_err-say_answer-in-Ok-End.ensures
     (ends_saying start given lines ended a now said.ends (λ silent. ends_early start given lines _ talk session a now on.talking silent)) said.holds

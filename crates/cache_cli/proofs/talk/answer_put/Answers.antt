@@ -1,9 +1,8 @@
-use Rattle.std.proofs.Common.{◌≡◌, inl, inr, refl, sym, ◌∙◌, ap, [], ◌∷◌, ◌++◌, List, ℕ, false, Some, Err}
+use Rattle.std.proofs.Common.{◌≡◌, inl, inr, refl, sym, ap, [], ◌∷◌, ℕ, false, Some, Err}
 use Rattle.cache_model.specs.declared.entries.Lifespan.TheVariants.{Endless}
 use Rattle.cache_model.specs.declared.commands.Command.TheVariants.{Put}
 use Rattle.cache_model.specs.declared.replies.Reply.TheVariants.{Done}
 use Rattle.cache_model.specs.Replies.{replies, refused, memory}
-use Rattle.cache_model.specs.DataFiles.{Frame}
 use Rattle.cache_model.proofs.PlainEntries.{OnOk-map}
 use Rattle.cache_disk.proofs.Runs.{Silent-at}
 use Rattle.cache_session.specs.Session.{is_session_spoilt, IsSessionStanding, frame_of, next_sequence, moment_of}

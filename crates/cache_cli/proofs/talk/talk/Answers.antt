@@ -1,4 +1,4 @@
-use Rattle.std.proofs.Common.{◌≡◌, ◌∙◌, Bool, subst}
+use Rattle.std.proofs.Common.{◌∙◌, Bool, subst}
 use Rattle.cache_cli.specs.Talking.{StepsBy}
 use Rattle.cache_cli.proofs.Stepping.{ran_out}
 use Rattle.cache_cli.proofs.talk.talk.Goals as goal
