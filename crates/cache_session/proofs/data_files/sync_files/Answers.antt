@@ -1,4 +1,4 @@
-use Rattle.std.proofs.Common.{◌≡◌, ◌+◌, ◌<◌, ◌≤◌, Ok, List, length, take, subst, ◌∙◌, get_or, arith, ℕ}
+use Rattle.std.proofs.Common.{Ok, List, take, subst, ◌∙◌, get_or, ℕ}
 use Rattle.std.proofs.lemmas.List.{take_more, take_all}
 use Rattle.cache_model.specs.Images.{log_name}
 use Rattle.cache_model.specs.declared.files.FileName.{FileName}

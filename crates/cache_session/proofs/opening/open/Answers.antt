@@ -1,4 +1,4 @@
-use Rattle.std.proofs.Common.{◌≡◌, List, Contains, IsSome, subst, sym, ℕ}
+use Rattle.std.proofs.Common.{List, subst, sym, ℕ}
 use Rattle.cache_session.specs.Opening.{IsDamageAmong}
 use Rattle.cache_session.proofs.Foreign.{all-numbers}
 use Rattle.cache_session.proofs.Openings.{AreAllNumbers, if-ok, if-ok-on, opened-from, sound-from, damage-from}

@@ -1,4 +1,4 @@
-use Rattle.std.proofs.Common.{◌≡◌, Option, Some, None, Ok, ap, subst, ◌∙◌}
+use Rattle.std.proofs.Common.{◌≡◌, Option, Ok, ap, subst, ◌∙◌}
 use Rattle.cache_model.specs.declared.files.FileName.{FileName}
 use Rattle.cache_model.specs.Files.{bytes_in}
 use Rattle.cache_model.specs.Images.{log_name}

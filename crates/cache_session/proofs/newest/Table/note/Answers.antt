@@ -1,5 +1,5 @@
-use Rattle.std.proofs.Common.{◌≡◌, ◌<◌, length, true, false, not, ap, sym, ◌∙◌, subst, arith, get_or, set, is_ok, cond, ◌++◌, ◌∷◌, []}
-use Rattle.cache_session.specs.Opening.{place_of, noted, is_newer}
+use Rattle.std.proofs.Common.{◌≡◌, ◌<◌, length, true, false, ap, sym, ◌∙◌, subst, arith, get_or, set, is_ok, cond, ◌++◌, ◌∷◌, []}
+use Rattle.cache_session.specs.Opening.{place_of, is_newer}
 use Rattle.cache_session.proofs.Noting.{place_of-le-length, noted-end, noted-newer, noted-kept}
 use Rattle.cache_session.proofs.newest.Table.note.Goals as goal
 
