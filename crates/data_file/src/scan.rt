@@ -294,3 +294,6 @@ impl Scan {
         })
     }
 }
+
+#[cfg(test)]
+mod tests;

@@ -5,10 +5,8 @@ ghost use Rattle.cache_disk.specs.Calls.{AllLeft};
 
 use super::*;
 use cache_disk::Host;
-use cache_model::{BadKind, Damage, FileKind, FileName, Place, StoreFault};
+use cache_model::{FileKind, FileName, Place, StoreFault};
 use host_memory::MemoryHost;
-use record_format::OwnItem;
-use std::alloc::Global;
 use std::test::Fail;
 
 const NAME: FileName = FileName {
@@ -87,113 +85,5 @@ fn an_empty_frame_is_written(rt: HostRuntime) -> Result<(), Fail> {
         host.file(NAME),
         Some([1, 1, 0, 0, 0, 0, 0, 0, 0, 0, 9, 0].as_slice())
     );
-    Ok(())
-}
-
-// The first five that are given of a file with these bytes: where each begins, and whether it ends a frame.
-fn five_given<H: Host>(
-    alloc: Global,
-    host: &mut H,
-    bytes: &[u8],
-) -> Result<[Option<(u32, bool)>; 5], StoreFault>
-    requires { IsTrue H.tells → AllLeft (H.state host.old) (λ image. file_in image NAME ≡ None) }
-{
-    host.create(NAME)?;
-    host.write(NAME, 0, bytes)?;
-    let mut scan = Scan::new(alloc, NAME, bytes.len() as u64)?;
-    let first = seen(scan.next(host)?);
-    let second = seen(scan.next(host)?);
-    let third = seen(scan.next(host)?);
-    let fourth = seen(scan.next(host)?);
-    let fifth = seen(scan.next(host)?);
-    Ok([first, second, third, fourth, fifth])
-}
-
-fn seen(found: Option<Scanned>) -> Option<(u32, bool)> {
-    match found {
-        Some(Scanned { place, item }) => Some((place.at, matches!(&item, OwnItem::End { .. }))),
-        None => None,
-    }
-}
-
-// The first that is given of a file with these bytes.
-fn first_given<H: Host>(
-    alloc: Global,
-    host: &mut H,
-    bytes: &[u8],
-) -> Result<Option<(u32, bool)>, StoreFault>
-    requires { IsTrue H.tells → AllLeft (H.state host.old) (λ image. file_in image NAME ≡ None) }
-{
-    host.create(NAME)?;
-    host.write(NAME, 0, bytes)?;
-    let mut scan = Scan::new(alloc, NAME, bytes.len() as u64)?;
-    Ok(seen(scan.next(host)?))
-}
-
-#[test]
-fn items_are_given_back(rt: HostRuntime) -> Result<(), Fail> {
-    let alloc = rt.alloc();
-    for short in [0, 1, 7] {
-        let mut host = MemoryHost::new(
-            alloc,
-            Vec::new(alloc),
-            Vec::new(alloc),
-            Vec::new(alloc),
-            short,
-        )?;
-        let given = five_given(alloc, &mut host, &TWO_FRAMES)?;
-        assert_eq!(rt;
-            given,
-            [
-                Some((2, false)),
-                Some((14, true)),
-                Some((24, false)),
-                Some((49, true)),
-                None
-            ],
-            "short {short}"
-        );
-    }
-    Ok(())
-}
-
-#[test]
-fn damage_is_named(rt: HostRuntime) -> Result<(), Fail> {
-    let alloc = rt.alloc();
-    let cases = [
-        ([1, 2, 0, 0], 1, BadKind::Version(2)),
-        ([1, 1, 3, 0], 2, BadKind::Tag(3)),
-        ([1, 1, 2, 0], 2, BadKind::Cut),
-    ];
-    for (bytes, at, kind) in cases {
-        let mut host = MemoryHost::new(
-            alloc,
-            Vec::new(alloc),
-            Vec::new(alloc),
-            Vec::new(alloc),
-            0,
-        )?;
-        match first_given(alloc, &mut host, &bytes) {
-            Err(StoreFault::Damaged(damage)) => assert_eq!(rt;
-                damage,
-                Damage {
-                    file: NAME,
-                    at,
-                    kind
-                }
-            ),
-            _ => assert_eq!(rt; at, 0, "a damage"),
-        }
-    }
-    for bytes in [[0, 9, 9, 9], [2, 1, 3, 3]] {
-        let mut host = MemoryHost::new(
-            alloc,
-            Vec::new(alloc),
-            Vec::new(alloc),
-            Vec::new(alloc),
-            0,
-        )?;
-        assert_eq!(rt; first_given(alloc, &mut host, &bytes)?, None);
-    }
     Ok(())
 }
