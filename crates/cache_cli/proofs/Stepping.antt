@@ -72,7 +72,7 @@ in_hand_end from given script left talk session a talking none =
 holds_frames : (log : Option Appender) (number : ℕ) (now : HostState) (frames : List Frame) → now.left now.turn now.files → IsLogOf log number → IsFileOf log number now frames → HoldsFrames now.files number frames
 holds_frames None number now frames reads usable file = inr (file.1 now.files reads, file.0)
 holds_frames (Some log) number now frames reads usable file =
-    inl (ap (λ name. file_in now.files name) (sym usable.0) ∙ file.reads ∙ ap (λ (bytes : List ℕ). Some bytes) (written-none frames))
+    inl (ap (λ name. file_in now.files name) (sym usable.0) ∙ file.reads ∙ ap (λ (bytes : List ℕ). Some bytes) (written-none frames), file.in_grammar)
 
 -- a run whose end was answered
 pub ends_whole : (from : HostState) (given : ℕ) (script : List (List ℕ)) (talk : Talk) (session : Session) (now : HostState)

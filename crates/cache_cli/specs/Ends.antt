@@ -6,7 +6,7 @@ use Rattle.cache_model.specs.declared.faults.Damage.{Damage}
 use Rattle.cache_model.specs.declared.replies.Status.{Status}
 use Rattle.cache_model.specs.declared.replies.Status.TheVariants as status
 use Rattle.cache_model.specs.Files.{Image, file_in}
-use Rattle.cache_model.specs.DataFiles.{Frame, file_spelling}
+use Rattle.cache_model.specs.DataFiles.{Frame, file_spelling, AreFrames}
 use Rattle.cache_model.specs.Lines.{Lacks, lines_of, command_of, units_of, units_of_length}
 use Rattle.cache_model.specs.Images.{log_name}
 use Rattle.cache_disk.specs.State.{HostState, SameBut, SameFiles}
@@ -28,10 +28,10 @@ pub record Says (from to : HostState) (given : ℕ) (script left : List (List �
   pub within : IsWithin talk.first talk.number (frames_in talk)
   pub said : to.said to.turn ≡ and_then_said (from.said from.turn) (text_of talk)
 
--- the data file with this number is these frames, or isn't there where there is none
+-- the data file with this number is these frames, each within its limits, or isn't there where there is none
 abbrev pub HoldsFrames : Image → ℕ → List Frame → Type 0
 HoldsFrames files number frames =
-    (file_in files (log_name number) ≡ Some (file_spelling frames))
+    ((file_in files (log_name number) ≡ Some (file_spelling frames)) × AreFrames frames)
     ⊎ ((file_in files (log_name number) ≡ None) × (frames ≡ []))
 
 -- A run answered each line of the script and its end. Its file has a frame for each put, and other files are as they were.
