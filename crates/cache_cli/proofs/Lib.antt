@@ -1,6 +1,7 @@
 mod Answering
 mod Beginning
 mod Composing
+mod Leaving
 mod ReadReplies
 mod Same
 mod Sessions

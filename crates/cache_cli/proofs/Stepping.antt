@@ -16,11 +16,12 @@ use Rattle.cache_session.specs.Session.{IsLogOf, IsFileOf}
 use Rattle.cache_script.specs.declared.line_reader.LineReader.{LineReader}
 use Rattle.cache_script.specs.LineReader.{unread, units_taken, TakesLine, Exhausts}
 use Rattle.cache_cli.specs.Talk.{Talk, IsTalk, text_of, end_text, frames_in}
-use Rattle.cache_cli.specs.Ends.{HoldsFrames, EndsWhole, EndsTaken}
+use Rattle.cache_cli.specs.Ends.{EndsWhole, EndsUnread, EndsTaken}
 use Rattle.cache_cli.specs.Talking.{HoldsFrom, IsTelling, IsTalking, IsInHand, EndsBy, Told, Answered, IsTalkingOn, Stepped, Ran}
 use Rattle.data_file.proofs.Bytes.{written-none}
 use Rattle.cache_script.proofs.LongLines.{long_line}
 use Rattle.cache_cli.proofs.Answering.{with_answer, in_hand_still, said-append}
+use Rattle.cache_cli.proofs.Leaving.{leaves_now}
 use Rattle.cache_cli.proofs.Told.{answered}
 
 -- a talk whose end is answered
@@ -68,12 +69,6 @@ in_hand_end from given script left talk session a talking none =
       holds = telling.holds;
     }
 
--- the session's file as it reads
-holds_frames : (log : Option Appender) (number : ℕ) (now : HostState) (frames : List Frame) → now.left now.turn now.files → IsLogOf log number → IsFileOf log number now frames → HoldsFrames now.files number frames
-holds_frames None number now frames reads usable file = inr (file.1 now.files reads, file.0)
-holds_frames (Some log) number now frames reads usable file =
-    inl (ap (λ name. file_in now.files name) (sym usable.0) ∙ file.reads ∙ ap (λ (bytes : List ℕ). Some bytes) (written-none frames), file.in_grammar)
-
 -- a run whose end was answered
 pub ends_whole : (from : HostState) (given : ℕ) (script : List (List ℕ)) (talk : Talk) (session : Session) (now : HostState)
     → IsTelling from given script [] (with_end talk) session now (now.said now.turn)
@@ -85,8 +80,7 @@ ends_whole from given script talk session now telling reads usable units = recor
   talk = with_end talk;
   says = record { is_talk = telling.is_talk; within = telling.within; said = telling.says };
   ended = refl;
-  file = subst (λ (n : ℕ). HoldsFrames now.files n (frames_in talk)) telling.file (holds_frames session.log session.file now (frames_in talk) reads usable telling.stands.file);
-  others = telling.others;
+  leaves = leaves_now from given script [] (with_end talk) session now (now.said now.turn) telling reads usable;
   units = omega (arith, units, ap units_of (telling.is_talk.split ∙ append-nil talk.answered));
 }
 
@@ -150,13 +144,17 @@ stepped_out from given script session now reader rest ended (Err status) is ends
 
 -- a run that took as many units as it may
 pub ends_taken : (from : HostState) (given : ℕ) (script : List (List ℕ)) (talk : Talk) (session : Session) (now : HostState) (reader : LineReader) (rest : List ℕ)
-    → IsTalkingOn from given script talk session now reader rest → Exhausts (unread reader rest) (units_taken reader) → EndsTaken from now given script
-ends_taken from given script talk session now reader rest on exhausts = record {
+    → IsTalkingOn from given script talk session now reader rest → Exhausts (unread reader rest) (units_taken reader)
+    → now.left now.turn now.files
+    → IsLogOf session.log session.file
+    → EndsTaken from now given script
+ends_taken from given script talk session now reader rest on exhausts reads usable = record {
   talk = talk;
   part = exhausts.line;
   rest = exhausts.rest;
   says = record { is_talk = subst (λ (input : List ℕ). IsTalk talk from.files given script (lines_of input)) exhausts.front on.talking.0.is_talk; within = on.talking.0.within; said = on.talking.0.says };
   going = on.talking.1;
+  leaves = leaves_now from given script (lines_of (unread reader rest)) talk session now (now.said now.turn) on.talking.0 reads usable;
   lacks = exhausts.lacks;
   units = omega (arith, exhausts.spent, on.units);
 }
@@ -176,4 +174,18 @@ ran_out from given script now ended (Err status) is ends holds = record {
   whole = tt;
   ends = subst (λ (s : Status). EndsBy s from now given script) (sym is.1) ends;
   holds = holds;
+}
+
+-- a run whose script can't be read on
+pub ends_unread : (from : HostState) (given : ℕ) (script left : List (List ℕ)) (talk : Talk) (session : Session) (now : HostState)
+    → IsTalking from given script left talk session now
+    → now.left now.turn now.files
+    → IsLogOf session.log session.file
+    → EndsUnread from now given script
+ends_unread from given script left talk session now talking reads usable = record {
+  talk = talk;
+  left = left;
+  says = record { is_talk = talking.0.is_talk; within = talking.0.within; said = talking.0.says };
+  going = talking.1;
+  leaves = leaves_now from given script left talk session now (now.said now.turn) talking.0 reads usable;
 }

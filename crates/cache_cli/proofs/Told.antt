@@ -1,19 +1,21 @@
 -- How a line that was answered goes on or ends.
-use Rattle.std.proofs.Common.{◌≡◌, ⊎_elim, ℕ, ◌+◌, List, ◌∷◌, length, Some, Result, Ok, Err, refl, sym, ◌∙◌, subst}
+use Rattle.std.proofs.Common.{◌≡◌, ⊎_elim, ℕ, ◌+◌, List, ◌∷◌, length, Some, Result, Ok, Err, refl, sym, ◌∙◌, ap, subst, arith}
 use Rattle.cache_model.specs.declared.replies.Status.{Status}
 use Rattle.cache_model.specs.declared.commands.Command.TheVariants.{Put}
 use Rattle.cache_model.specs.declared.entries.Lifespan.TheVariants.{Endless}
 use Rattle.cache_model.specs.Lines.{command_of}
 use Rattle.cache_model.specs.Replies.{Response}
-use Rattle.cache_disk.specs.State.{HostState, Moves, Silent}
+use Rattle.cache_disk.specs.State.{HostState, Stands, Moves, Silent}
 use Rattle.cache_session.specs.declared.session.Session.{Session}
 use Rattle.cache_model.specs.declared.faults.Spent.{Spent}
 use Rattle.cache_session.specs.Session.{ReadsOneOf, after_put, spent_by}
-use Rattle.cache_session.proofs.Standing.{session_said}
+use Rattle.cache_session.proofs.Standing.{session_said, session_still}
+use Rattle.cache_model.specs.Images.{log_name}
+use Rattle.cache_disk.proofs.Runs.{SameBut-trans, SameBut-files}
 use Rattle.cache_cli.specs.Saying.{SaidBy}
 use Rattle.cache_cli.specs.Talk.{Talk, plain_of, frames_in}
-use Rattle.cache_cli.specs.Ends.{EndsEarly, EndsSpent, IsSilent}
-use Rattle.cache_cli.specs.Talking.{HoldsFrom, IsTalking, IsInHand, EndsSaying, Told, EndsBy, Answered}
+use Rattle.cache_cli.specs.Ends.{EndsEarly, EndsSpent, Leaves, IsSilent}
+use Rattle.cache_cli.specs.Talking.{HoldsFrom, IsTelling, IsTalking, IsInHand, EndsSaying, Told, EndsBy, Answered}
 use Rattle.cache_cli.proofs.Talking.{goes_on_silent}
 use Rattle.cache_cli.proofs.Beginning.{saying}
 use Rattle.cache_cli.proofs.SpentNumbers.{is_spent}
@@ -48,8 +50,9 @@ pub ends_spent : (from : HostState) (given : ℕ) (script left : List (List ℕ)
     → command_of line ≡ Some (Put key value Endless)
     → IsSilent a b
     → spent_by session (length key + length value) ≡ Some s
+    → Leaves from b talk
     → EndsSpent from b given script
-ends_spent from given script left talk line key value session a b s talking names silent is = record {
+ends_spent from given script left talk line key value session a b s talking names silent is leaves = record {
   talk = talk;
   line = line;
   left = left;
@@ -57,6 +60,7 @@ ends_spent from given script left talk line key value session a b s talking name
   value = value;
   says = record { is_talk = talking.0.is_talk; within = talking.0.within; said = silent ∙ talking.0.says };
   going = talking.1;
+  leaves = leaves;
   puts = names;
   spent = is_spent session a talk (length key + length value) s talking.0.stands talking.0.next talking.0.file is;
 }
@@ -99,3 +103,23 @@ put_holds from given script left talk line key value session a b talking names m
     (λ before. holds_reading from given script (line ∷ left) talk (a.said a.turn) c talking.0.is_talk talking.0.says before)
     (λ after. holds_reading_more from given script left talk line (Put key value Endless) (a.said a.turn) c talking.0.is_talk names talking.0.says after)
     reads)
+
+-- a session tells on after a call that changed nothing
+pub telling_still : (from : HostState) (given : ℕ) (script left : List (List ℕ)) (talk : Talk) (session : Session) (a b : HostState)
+    → IsTalking from given script left talk session a
+    → Stands a b
+    → HoldsFrom from b given script
+    → IsTelling from given script left talk session b (b.said b.turn)
+telling_still from given script left talk session a b talking still holds =
+    let telling = talking.0 in
+    record {
+      is_talk = telling.is_talk;
+      says = ap (λ (t : ℕ). b.said t) still.turn ∙ still.said a.turn (omega arith) ∙ telling.says;
+      stands = session_still session a b (plain_of talk) (frames_in talk) telling.stands still;
+      next = telling.next;
+      moment = telling.moment;
+      file = telling.file;
+      others = SameBut-trans (log_name talk.number) from.files a.files b.files telling.others (SameBut-files (log_name talk.number) a.files b.files still.files);
+      within = telling.within;
+      holds = holds;
+    }

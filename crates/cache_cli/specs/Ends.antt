@@ -34,13 +34,17 @@ HoldsFrames files number frames =
     ((file_in files (log_name number) ≡ Some (file_spelling frames)) × AreFrames frames)
     ⊎ ((file_in files (log_name number) ≡ None) × (frames ≡ []))
 
--- A run answered each line of the script and its end. Its file has a frame for each put, and other files are as they were.
+-- The talk's file has a frame for each of its puts and no other one, and other files are as they were.
+pub record Leaves (from to : HostState) (talk : Talk) : Type 0 where
+  pub file : HoldsFrames to.files talk.number (frames_in talk)
+  pub others : SameBut (log_name talk.number) from.files to.files
+
+-- A run answered each line of the script and its end.
 pub record EndsWhole (from to : HostState) (given : ℕ) (script : List (List ℕ)) : Type 0 where
   pub talk : Talk
   pub says : Says from to given script [] talk
   pub ended : talk.ended ≡ true
-  pub file : HoldsFrames to.files talk.number (frames_in talk)
-  pub others : SameBut (log_name talk.number) from.files to.files
+  pub leaves : Leaves from to talk
   pub units : units_of script < 2 ^ 32
 
 -- A run answered the first lines of the script.
@@ -49,6 +53,14 @@ pub record EndsEarly (from to : HostState) (given : ℕ) (script : List (List �
   pub left : List (List ℕ)
   pub says : Says from to given script left talk
   pub going : talk.ended ≡ false
+
+-- A run answered the first lines of the script, and left a frame for each of their puts.
+pub record EndsUnread (from to : HostState) (given : ℕ) (script : List (List ℕ)) : Type 0 where
+  pub talk : Talk
+  pub left : List (List ℕ)
+  pub says : Says from to given script left talk
+  pub going : talk.ended ≡ false
+  pub leaves : Leaves from to talk
 
 -- A number is spent for a put of so many bytes of key and value: the next sequence number is at its end, or a file has
 -- to be made whose number is, or the talk's file has no room for the frame.
@@ -67,6 +79,7 @@ pub record EndsSpent (from to : HostState) (given : ℕ) (script : List (List �
   pub value : List ℕ
   pub says : Says from to given script (line ∷ left) talk
   pub going : talk.ended ≡ false
+  pub leaves : Leaves from to talk
   pub puts : command_of line ≡ Some (Put key value Endless)
   pub spent : IsSpent talk (length key + length value)
 
@@ -77,6 +90,7 @@ pub record EndsTaken (from to : HostState) (given : ℕ) (script : List (List �
   pub rest : List ℕ
   pub says : Says from to given script (lines_of (part ++ rest)) talk
   pub going : talk.ended ≡ false
+  pub leaves : Leaves from to talk
   pub lacks : Lacks 10 part
   pub units : 2 ^ 32 ≤ units_of talk.answered + units_of_length (length part)
 
@@ -105,7 +119,7 @@ Ends status.Usage from to given script = IsForeign from.files × IsSilent from t
 Ends status.Settings from to given script = ⊥
 Ends status.Damaged from to given script = EndsDamaged from to
 Ends status.DiskFailed from to given script = IsCutShort from to given script
-Ends status.ScriptFailed from to given script = EndsEarly from to given script
+Ends status.ScriptFailed from to given script = EndsUnread from to given script
 Ends status.SayFailed from to given script = Unit {0}
 Ends status.NoMemory from to given script = IsCutShort from to given script
 Ends status.Spent from to given script = EndsSpent from to given script

@@ -12,7 +12,7 @@ use Rattle.cache_session.specs.declared.session.Session.{Session}
 use Rattle.cache_script.specs.declared.line_reader.LineReader.{LineReader}
 use Rattle.cache_script.specs.LineReader.{unread, units_taken}
 use Rattle.cache_cli.specs.Talk.{Talk, IsTalk, plain_of, text_of, frames_in, HoldsThroughout}
-use Rattle.cache_cli.specs.Ends.{IsWithin, EndsWhole, EndsEarly, EndsSpent, EndsTaken, IsSilent, Ends}
+use Rattle.cache_cli.specs.Ends.{IsWithin, EndsWhole, EndsEarly, EndsUnread, EndsSpent, EndsTaken, IsSilent, Ends}
 
 -- where no image that might be left at the beginning is damaged, each image since holds
 abbrev pub HoldsFrom : HostState → HostState → ℕ → List (List ℕ) → Type 0
@@ -56,7 +56,7 @@ EndsBy status.Usage from now given script = ⊥
 EndsBy status.Settings from now given script = ⊥
 EndsBy status.Damaged from now given script = ⊥
 EndsBy status.DiskFailed from now given script = EndsEarly from now given script
-EndsBy status.ScriptFailed from now given script = EndsEarly from now given script
+EndsBy status.ScriptFailed from now given script = EndsUnread from now given script
 EndsBy status.SayFailed from now given script = Unit {0}
 EndsBy status.NoMemory from now given script = EndsEarly from now given script
 EndsBy status.Spent from now given script = EndsSpent from now given script

@@ -92,6 +92,7 @@ impl Session {
         ensures next { OnOk result (next_sequence self.new ≡ next_sequence self.old + 1) }
         ensures spent { (s : Spent) → spent_by self.old (length key + length value) ≡ Some s → result ≡ Err (fault.Spent s) }
         ensures only_spent { (s : Spent) → IsErrOf result (fault.Spent s) → spent_by self.old (length key + length value) ≡ Some s }
+        ensures untouched { IsTrue H.tells → (s : Spent) → IsErrOf result (fault.Spent s) → Stands (H.state host.old) (H.state host.new) }
         ensures never_damaged { (d : Damage) → IsErrOf result (fault.Damaged d) → ⊥ }
         ensures unchanged { IsErrOf result fault.Memory → is_session_spoilt self.new ≡ false → entries_of self.new ≡ entries_of self.old }
         ensures unnumbered { IsErrOf result fault.Memory → is_session_spoilt self.new ≡ false → next_sequence self.new ≡ next_sequence self.old }

@@ -4,7 +4,7 @@ use Rattle.cache_model.specs.Replies.{refused, syntax}
 use Rattle.cache_script.specs.declared.line_reader.Taken.{Taken}
 use Rattle.cache_script.specs.LineReader.{unread, units_taken, TakesLine, Takes}
 use Rattle.cache_cli.proofs.Answering.{with_answer}
-use Rattle.cache_cli.proofs.Stepping.{units_fit, with_end, in_hand_end, in_hand_long, answered_long, ends_whole, has_line, stepped_on, stepped_out, ends_taken}
+use Rattle.cache_cli.proofs.Stepping.{units_fit, with_end, in_hand_end, in_hand_long, answered_long, ends_whole, has_line, stepped_on, stepped_out, ends_taken, ends_unread}
 use Rattle.cache_cli.proofs.Told.{ends_early, ends_saying}
 use Rattle.cache_cli.proofs.talk.answer_next.Goals as goal
 
@@ -48,14 +48,14 @@ returns-in-Ok-Spent-clause-answered g c = λ tells told from given lines talk on
     let took = subst (λ (t : Taken). Takes t (unread old rest_old) (unread new rest_new) (units_taken old) new) c.in-Ok-Spent.field-0-is (c.in-Ok-Spent.ensures.told told) in
     record {
       goes = tt;
-      ends = ends_taken (g.H.Host.state from) given lines talk c.args.session.now a old rest_old on took;
+      ends = ends_taken (g.H.Host.state from) given lines talk c.args.session.now a old rest_old on took (g.met.H.Host.reads_now c.args.host.now tells) c.requires.usable;
       holds = on.talking.0.holds;
     }
 
 pub returns-in-Err-Failed-clause-answered : goal.returns-in-Err-Failed-clause-answered
 returns-in-Err-Failed-clause-answered g c = λ tells told from given lines talk on.
     let a = g.H.Host.state c.args.host.now in
-    record { goes = tt; ends = ends_early (g.H.Host.state from) given lines _ talk c.args.session.now a a on.talking refl; holds = on.talking.0.holds }
+    record { goes = tt; ends = ends_unread (g.H.Host.state from) given lines _ talk c.args.session.now a on.talking (g.met.H.Host.reads_now c.args.host.now tells) c.requires.usable; holds = on.talking.0.holds }
 
 pub returns-in-Err-Memory-clause-answered : goal.returns-in-Err-Memory-clause-answered
 returns-in-Err-Memory-clause-answered g c = λ tells told from given lines talk on.

@@ -11,7 +11,8 @@ use Rattle.cache_cli.proofs.Answering.{in_hand, in_hand_kept}
 use Rattle.cache_script.proofs.Commands.{put_short}
 use Rattle.cache_cli.proofs.SpentNumbers.{within_put, ok_not_err}
 use Rattle.cache_cli.proofs.Sessions.{on_ok}
-use Rattle.cache_cli.proofs.Told.{answered, put_holds, ends_early, ends_spent}
+use Rattle.cache_cli.proofs.Leaving.{leaves_now}
+use Rattle.cache_cli.proofs.Told.{answered, put_holds, ends_early, ends_spent, telling_still}
 use Rattle.cache_cli.proofs.talk.answer_put.Goals as goal
 
 pub returns-in-Ok-clause-standing : goal.returns-in-Ok-clause-standing
@@ -82,10 +83,15 @@ returns-in-Err-Spent-clause-answered g c = λ tells from given script left talk 
     let b = g.H.Host.state c.put.new.host in
     let old = c.args.session.now in
     let start = g.H.Host.state from in
+    let s = c.in-Err-Spent.field-0-0 in
     let moves = c.in-Err-Spent.ensures.images tells (plain_of talk) (frames_in talk) talking.0.stands in
     let silent = c.in-Err-Spent.ensures.silent tells in
+    let holds = put_holds start given script left talk line c.args.key c.args.value old a b talking names moves silent in
+    let still = c.in-Err-Spent.ensures.untouched tells s (λ i. Err (c.in-Err-Spent.field-0-is i)) in
+    let telling = telling_still start given script (line ∷ left) talk old a b talking still holds in
+    let leaves = leaves_now start given script (line ∷ left) talk old b (b.said b.turn) telling (g.met.H.Host.reads_now c.put.new.host tells) c.requires.usable in
     record {
       goes = tt;
-      ends = ends_spent start given script left talk line c.args.key c.args.value old a b c.in-Err-Spent.field-0-0 talking names (Silent-at a b moves.later silent) (c.in-Err-Spent.ensures.only_spent c.in-Err-Spent.field-0-0 (λ i. Err (c.in-Err-Spent.field-0-is i)));
-      holds = put_holds start given script left talk line c.args.key c.args.value old a b talking names moves silent;
+      ends = ends_spent start given script left talk line c.args.key c.args.value old a b s talking names (Silent-at a b moves.later silent) (c.in-Err-Spent.ensures.only_spent s (λ i. Err (c.in-Err-Spent.field-0-is i))) leaves;
+      holds = holds;
     }
