@@ -1,4 +1,5 @@
 pub mod Commands
 pub mod LongLines
+mod NameTexts
 mod Pending
 mod Taking

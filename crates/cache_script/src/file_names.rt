@@ -6,9 +6,11 @@
 // | Log   | `s<store>-<id>.log`, the store without leading zeros, the id in ten digits       |
 // | Tree  | `s<store>.tree`, the store without leading zeros                                 |
 // | Base  | `base<store>.dat`, the store 0 or 1                                              |
-ghost use Rattle.std.specs.Prelude.{◌≡◌, IfSome, IfOk, string_bytes};
+ghost use Rattle.std.specs.Prelude.{◌≡◌, ℕ, ◌<◌, ◌≤◌, ◌^◌, ◌++◌, List, codes, Some, IsSomeAnd, IfSome, IfOk, string_bytes};
+ghost use Rattle.std.specs.Fmt.{decimal};
 ghost use Rattle.cache_model.specs.Files.{IsFileName};
-ghost use Rattle.cache_script.specs.FileNames.{text_of, log_text_of, in_ten_digits};
+ghost use Rattle.cache_model.specs.declared.files.FileKind.TheVariants.{Log, Tree, Base};
+ghost use Rattle.cache_script.specs.FileNames.{text_of, log_text_of, in_ten_digits, name_of, after_s};
 
 use cache_model::{FileKind, FileName};
 use std::alloc::{AllocError, Global};
@@ -46,6 +48,7 @@ fn text_in_ten_digits(alloc: Global, number: u32) -> Result<String, AllocError>
 pub fn file_name_of(alloc: Global, text: &str) -> Result<Option<FileName>, AllocError>
     ensures range { IfOk result (λ found. IfSome found IsFileName) }
     ensures text { IfOk result (λ found. IfSome found (λ name. text_of name ≡ text.now)) }
+    ensures found { (name : FileName) → IsFileName name → name.store < 256 → text_of name ≡ text.now → IfOk result (λ found. found ≡ Some name) }
 {
     let Some(name) = read_name(text) else {
         return Ok(None);
@@ -60,7 +63,8 @@ pub fn file_name_of(alloc: Global, text: &str) -> Result<Option<FileName>, Alloc
 
 // The name that the text stands for, which may be spelled otherwise there, as with a leading zero too many.
 fn read_name(text: &str) -> Option<FileName>
-    ensures { IfSome result IsFileName }
+    ensures range { IfSome result IsFileName }
+    ensures found { (name : FileName) → IsFileName name → name.store < 256 → text.now ≡ text_of name → result ≡ Some name }
 {
     if text == "cache.toml" {
         return Some(FileName {
@@ -72,22 +76,15 @@ fn read_name(text: &str) -> Option<FileName>
     if let Some(rest) = text.strip_prefix("base") {
         return read_base_name(rest);
     }
-    let rest = text.strip_prefix('s')?;
-    match rest.strip_suffix(".tree") {
-        Some(store) => Some(FileName {
-            kind: FileKind::Tree,
-            store: store.parse().ok()?,
-            id: 0,
-        }),
-        None => read_log_name(rest),
-    }
+    read_store_name(text.strip_prefix('s')?)
 }
 
 // What follows `base` in the name of a base.
 fn read_base_name(rest: &str) -> Option<FileName>
-    ensures { IfSome result IsFileName }
+    ensures range { IfSome result IsFileName }
+    ensures found { (store : ℕ) → store ≤ 1 → rest.now ≡ decimal store ++ codes ".dat" → result ≡ Some (name_of Base store 0) }
 {
-    let store = rest.strip_suffix(".dat")?.parse().ok()?;
+    let store = read_store(rest.strip_suffix(".dat")?)?;
     if store > 1 {
         return None;
     }
@@ -98,13 +95,30 @@ fn read_base_name(rest: &str) -> Option<FileName>
     })
 }
 
+// What follows `s` in the name of a tree or of a data file.
+fn read_store_name(rest: &str) -> Option<FileName>
+    ensures range { IfSome result IsFileName }
+    ensures tree { (store : ℕ) → store < 256 → rest.now ≡ decimal store ++ codes ".tree" → result ≡ Some (name_of Tree store 0) }
+    ensures log { (store id : ℕ) → store < 256 → 1 ≤ id → id ≤ 4294967294 → rest.now ≡ after_s store (in_ten_digits id) → result ≡ Some (name_of Log store id) }
+{
+    match rest.strip_suffix(".tree") {
+        Some(digits) => Some(FileName {
+            kind: FileKind::Tree,
+            store: read_store(digits)?,
+            id: 0,
+        }),
+        None => read_log_name(rest),
+    }
+}
+
 // What follows `s` in the name of a data file.
 fn read_log_name(rest: &str) -> Option<FileName>
-    ensures { IfSome result IsFileName }
+    ensures range { IfSome result IsFileName }
+    ensures found { (store id : ℕ) → store < 256 → 1 ≤ id → id ≤ 4294967294 → rest.now ≡ after_s store (in_ten_digits id) → result ≡ Some (name_of Log store id) }
 {
-    let (store, id) = rest.strip_suffix(".log")?.split_once('-')?;
-    let store = store.parse().ok()?;
-    let id = id.parse().ok()?;
+    let (store, id) = log_parts(rest)?;
+    let store = read_store(store)?;
+    let id = read_id(id)?;
     if id == 0 || id == u32::MAX {
         return None;
     }
@@ -113,6 +127,27 @@ fn read_log_name(rest: &str) -> Option<FileName>
         store,
         id,
     })
+}
+
+// The digits of the store and of the id in the name of a data file.
+fn log_parts(rest: &str) -> Option<(&str, &str)>
+    ensures { (store : ℕ) (digits : List ℕ) → store < 256 → rest.now ≡ after_s store digits → IsSomeAnd result (λ parts. (parts.0.now ≡ decimal store) × (parts.1.now ≡ digits)) }
+{
+    rest.strip_suffix(".log")?.split_once('-')
+}
+
+// The store that has these digits.
+fn read_store(digits: &str) -> Option<u8>
+    ensures { (store : ℕ) → store < 256 → digits.now ≡ decimal store → result ≡ Some store }
+{
+    digits.parse().ok()
+}
+
+// The id that has these digits, leading zeros included.
+fn read_id(digits: &str) -> Option<u32>
+    ensures { (id : ℕ) → id < 2 ^ 32 → digits.now ≡ in_ten_digits id → result ≡ Some id }
+{
+    digits.parse().ok()
 }
 
 #[cfg(test)]
