@@ -1,5 +1,5 @@
 -- What a session leaves in files.
-use Rattle.std.proofs.Common.{◌≡◌, inl, inr, ℕ, List, [], Option, Some, None, sym, ◌∙◌, ap, subst}
+use Rattle.std.proofs.Common.{inl, inr, ℕ, List, Option, Some, None, sym, ◌∙◌, ap, subst}
 use Rattle.cache_model.specs.Files.{file_in}
 use Rattle.cache_model.specs.DataFiles.{Frame}
 use Rattle.cache_disk.specs.State.{HostState}

@@ -1,24 +1,20 @@
 -- One step of a run: a line more, or the end of the script.
-use Rattle.std.proofs.Common.{◌≡◌, inl, inr, ℕ, ◌+◌, ◌^◌, ◌<◌, Bool, true, false, List, [], ◌∷◌, ◌++◌, length, Option, Some, None, Result, Ok, Err, refl, sym, ◌∙◌, ap, subst, arith}
+use Rattle.std.proofs.Common.{◌≡◌, ℕ, ◌+◌, ◌^◌, ◌<◌, Bool, true, false, List, [], ◌∷◌, ◌++◌, length, Option, None, Result, Ok, Err, refl, sym, ◌∙◌, ap, subst, arith}
 use Rattle.std.specs.Prelude.{sum_by, IsErr, IsErrAnd}
 use Rattle.std.proofs.lemmas.List.{append-nil}
 use Rattle.std.proofs.lemmas.List.Sums.{sum_by-append, sum_by-cons}
 use Rattle.cache_model.specs.declared.replies.Status.{Status}
-use Rattle.cache_model.specs.Files.{file_in}
-use Rattle.cache_model.specs.DataFiles.{Frame}
 use Rattle.cache_model.specs.Lines.{lines_of, units_of, units_of_length}
 use Rattle.cache_model.specs.Replies.{refused, syntax, opened_line, line_of, response_lines, response_text, stopped_line}
 use Rattle.cache_disk.specs.State.{HostState}
 use Rattle.cache_disk.specs.Calls.{and_then_said}
-use Rattle.data_file.specs.declared.appender.Appender.{Appender}
 use Rattle.cache_session.specs.declared.session.Session.{Session}
-use Rattle.cache_session.specs.Session.{IsLogOf, IsFileOf}
+use Rattle.cache_session.specs.Session.{IsLogOf}
 use Rattle.cache_script.specs.declared.line_reader.LineReader.{LineReader}
 use Rattle.cache_script.specs.LineReader.{unread, units_taken, TakesLine, Exhausts}
-use Rattle.cache_cli.specs.Talk.{Talk, IsTalk, text_of, end_text, frames_in}
+use Rattle.cache_cli.specs.Talk.{Talk, IsTalk, text_of, end_text}
 use Rattle.cache_cli.specs.Ends.{EndsWhole, EndsUnread, EndsTaken}
 use Rattle.cache_cli.specs.Talking.{HoldsFrom, IsTelling, IsTalking, IsInHand, EndsBy, Told, Answered, IsTalkingOn, Stepped, Ran}
-use Rattle.data_file.proofs.Bytes.{written-none}
 use Rattle.cache_script.proofs.LongLines.{long_line}
 use Rattle.cache_cli.proofs.Answering.{with_answer, in_hand_still, said-append}
 use Rattle.cache_cli.proofs.Leaving.{leaves_now}
