@@ -21,11 +21,10 @@ use Rattle.cache_session.specs.Session.{moment_of, next_sequence, file_number}
 use Rattle.cache_session.specs.Started.{IsOpened}
 use Rattle.cache_script.specs.declared.line_reader.LineReader.{LineReader}
 use Rattle.cache_cli.proofs.Same.{sound_same}
-use Rattle.cache_script.specs.Damages.{damage_line}
 use Rattle.cache_script.specs.LineReader.{IsNew, unread}
 use Rattle.cache_cli.specs.Saying.{SaidBy, say_status}
 use Rattle.cache_cli.specs.Talk.{Talk, text_of, HoldsAtTurn}
-use Rattle.cache_cli.specs.Ends.{IsSilent, EndsDamaged, Ends}
+use Rattle.cache_cli.specs.Ends.{IsSilent, Ends}
 use Rattle.cache_cli.specs.Talking.{HoldsFrom, IsTelling, IsInHand, EndsSaying, EndsBy, Begins, IsTalkingOn, Ran, ended_by}
 
 -- before anything is said
@@ -139,14 +138,6 @@ saying bytes a b ended said = by_fault said.0 said.1 said.2
     by_fault Memory failed is =
         let stands = failed.failed.memory refl in
         inr (is, ap (λ (t : ℕ). b.said t) stands.turn ∙ stands.said a.turn (omega arith))
-
--- the line of a damage is said
-pub ends_damaged : (from a b : HostState) (damage : Damage) (bytes : List ℕ) → IsFirstDamageOf from.files damage → IsSilent from a → bytes ≡ damage_line damage → Said bytes a b (Ok tt) → EndsDamaged from b
-ends_damaged from a b damage bytes first silent line said = record {
-  damage = damage;
-  first = first;
-  said = said.ok.said.since b.turn said.ok.ok (omega arith) ∙ ap (λ (s : Option (List ℕ)). and_then_said s bytes) silent ∙ ap (λ (l : List ℕ). and_then_said (from.said from.turn) l) line;
-}
 
 -- the status of an error that is handed on
 pub ended_err : (ended : Status) (result : Result (Unit {0}) Status) → IsErr result × IsErrAnd result (λ given. given ≡ ended) → ended_by result ≡ ended

@@ -106,16 +106,17 @@ IsUnused from to = IsSilent from to × SameFiles from.files to.files
 abbrev pub IsCutShort : HostState → HostState → ℕ → List (List ℕ) → Type 0
 IsCutShort from to given script = IsSilent from to ⊎ EndsEarly from to given script
 
--- A run said where the directory is damaged first, and nothing else.
+-- A run said where the directory is damaged first, and nothing else. It changed no file.
 pub record EndsDamaged (from to : HostState) : Type 0 where
   pub damage : Damage
   pub first : IsFirstDamageOf from.files damage
+  pub files : SameFiles from.files to.files
   pub said : to.said to.turn ≡ and_then_said (from.said from.turn) (damage_line damage)
 
 -- What a run with good words said and left, by its status. Of one whose saying failed nothing is known here.
 abbrev pub Ends : Status → HostState → HostState → ℕ → List (List ℕ) → Type 0
 Ends status.Done from to given script = EndsWhole from to given script
-Ends status.Usage from to given script = IsForeign from.files × IsSilent from to
+Ends status.Usage from to given script = IsForeign from.files × IsUnused from to
 Ends status.Settings from to given script = ⊥
 Ends status.Damaged from to given script = EndsDamaged from to
 Ends status.DiskFailed from to given script = IsCutShort from to given script

@@ -7,7 +7,7 @@ ghost use Rattle.cache_disk.specs.Calls.{AllLeft};
 ghost use Rattle.cache_session.specs.Session.{is_session_spoilt, IsUsable, IsSessionStanding};
 ghost use Rattle.cache_session.specs.Opening.{IsForeign, IsFirstDamageOf};
 ghost use Rattle.cache_cli.specs.Causes.{CauseOf, HostCauseOf, HasHostCause, HasCause};
-ghost use Rattle.cache_cli.specs.Ends.{IsSilent, IsUnused, Ends, EndsForeign};
+ghost use Rattle.cache_cli.specs.Ends.{IsUnused, Ends, EndsForeign};
 ghost use Rattle.cache_cli.specs.Talk.{HoldsThroughout};
 ghost use Rattle.cache_cli.specs.Talking.{HoldsFrom, Begins, Finished};
 ghost use Rattle.cache_cli.specs.Words.{words_moment};
@@ -119,7 +119,7 @@ fn open<H: Host>(alloc: Global, host: &mut H, given: u64) -> Result<Session, Sta
 // Says the line of a damage, and what the run ends with.
 fn tell_damage<H: Host>(alloc: Global, host: &mut H, damage: &Damage) -> Status
     ensures ends { IsTrue H.tells → (from : H) (given : ℕ) (script : List (List ℕ))
-        → IsFirstDamageOf (H.state from).files damage.now → IsSilent (H.state from) (H.state host.old)
+        → IsFirstDamageOf (H.state from).files damage.now → IsUnused (H.state from) (H.state host.old)
         → Ends result (H.state from) (H.state host.new) given script }
     ensures cause { HostCauseOf result (H.state host.old) (H.state host.new) }
 {
