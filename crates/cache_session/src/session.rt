@@ -16,11 +16,10 @@ ghost use Rattle.cache_model.specs.Items.{Item, IsItem, IsRecord, spelling};
 ghost use Rattle.record_format.specs.Meaning.{own_item};
 ghost use Rattle.data_file.specs.Appending.{IsRecordSpelling, CountsOneOf, IsHostly, sealed};
 
+use crate::data_files::log_name;
 use crate::entries::Entries;
 use cache_disk::Host;
-use cache_model::{
-    Entry, FileKind, FileName, Key, ModelFault, Reply, Spent, StoreFault, Until, Value,
-};
+use cache_model::{Entry, Key, ModelFault, Reply, Spent, StoreFault, Until, Value};
 use data_file::Appender;
 use record_format::{OwnItem, encode};
 
@@ -272,17 +271,6 @@ fn is_visible(until: Until, moment: u64) -> bool
     match until {
         Until::Never => true,
         Until::At(end) => moment < end,
-    }
-}
-
-// The name of a data file.
-fn log_name(number: u32) -> FileName
-    ensures { result ≡ log_name number }
-{
-    FileName {
-        kind: FileKind::Log,
-        store: 0,
-        id: number,
     }
 }
 

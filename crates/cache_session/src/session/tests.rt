@@ -4,7 +4,7 @@ ghost use Rattle.cache_session.specs.Session.{is_session_spoilt, IsUsable, IsSes
 
 use super::*;
 use crate::StartFault;
-use cache_model::{BadKind, Damage};
+use cache_model::{BadKind, Damage, FileKind, FileName};
 use host_memory::{DiskFile, MemoryHost};
 use std::alloc::Global;
 use std::process::Abort;
