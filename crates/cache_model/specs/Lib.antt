@@ -2,6 +2,7 @@ pub mod Changes
 pub mod Commands
 pub mod DataFiles
 pub mod Files
+pub mod Hash
 pub mod Images
 pub mod Items
 pub mod Limits

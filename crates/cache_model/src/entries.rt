@@ -48,3 +48,14 @@ pub enum Change {
     Put(Key, Entry),
     Remove(Key),
 }
+
+/// What a store has of a key.
+#[derive(Debug, Drop)]
+pub enum Answer {
+    /// A visible entry.
+    Known(Entry),
+    /// Nothing visible, and nothing below this store counts.
+    Gone,
+    /// Nothing that this store knows of.
+    Unknown,
+}
