@@ -1,5 +1,5 @@
 -- What a directory's data files say, as they read or as a crash left them.
-use Rattle.std.specs.Prelude.{◌≡◌, ◌⊎◌, ℕ, ◌<◌, ◌≤◌, List, Option, Some, None, Contains}
+use Rattle.std.specs.Prelude.{◌≡◌, ◌⊎◌, ◌↔◌, ℕ, ◌<◌, ◌≤◌, List, Option, Some, None, Contains}
 use Rattle.std.specs.FinMap.{get}
 use Rattle.cache_model.specs.declared.entries.Entry.{Entry}
 use Rattle.cache_model.specs.declared.faults.BadKind.{BadKind}
@@ -19,6 +19,10 @@ pub record IsCounted (image : Image) (number at : ℕ) (item : Item) : Type 0 wh
   pub bytes : List ℕ
   pub there : file_in image (log_name number) ≡ Some bytes
   pub counted : Contains (counted_items bytes) (at, item)
+
+-- the same records and ends count in both images
+abbrev pub SameRecords : Image → Image → Type 0
+SameRecords old new = (number at : ℕ) (item : Item) → (IsCounted new number at item ↔ IsCounted old number at item)
 
 -- the key of a record
 abbrev pub key_of : Item → Option (List ℕ)

@@ -7,8 +7,11 @@ pub mod Images
 pub mod Items
 pub mod Limits
 pub mod Lines
+pub mod Numbers
 pub mod Plain
 pub mod PlainCache
 pub mod Prefix
 pub mod Replies
+pub mod Tokens
+pub mod Settings
 pub mod Transcript

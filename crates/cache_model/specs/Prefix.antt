@@ -17,7 +17,3 @@ pub record FitsPrefix (image : Image) (opening : Plain) (commands : List Command
   pub holds : promised ≤ count
   pub within : count ≤ length (changes_of opening commands key)
   pub reads : (mark moment : ℕ) → IsMark image mark → mark ≤ moment → visible_at moment entry ≡ visible_at moment (entry_after (get opening.entries key) (changes_of opening commands key) count)
-
--- How many changes of a key were promised by the answers to these commands: each change is synced before it's answered.
-abbrev pub promised_changes : Plain → List Command → List ℕ → ℕ
-promised_changes opening commands key = length (changes_of opening commands key)

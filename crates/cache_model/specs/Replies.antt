@@ -1,34 +1,25 @@
 -- What is said: the text of each reply and of each refusal.
-use Rattle.std.specs.Prelude.{ℕ, ◌+◌, ◌/◌, ◌%◌, List, [], ◌∷◌, ◌++◌, flat_map, if◌then◌else◌, nat_lt, decimal, codes}
+use Rattle.std.specs.Prelude.{ℕ, List, [], ◌∷◌, ◌++◌, flat_map, decimal, codes}
 use Rattle.cache_model.specs.declared.replies.Turned.{Turned}
 use Rattle.cache_model.specs.declared.replies.Turned.TheVariants as turned
 use Rattle.cache_model.specs.declared.replies.Figures.{Figures}
 use Rattle.cache_model.specs.declared.replies.Reply.{Reply}
 use Rattle.cache_model.specs.declared.replies.Reply.TheVariants.{Done, Kept, Nothing, Differs, Found, Yes, No, Size, Keys, Cleared, Turned as TurnedTo, Compacted, Stats, Exported, Past, Stopped, Halted}
-use Rattle.cache_model.specs.Lines.{is_plain_byte}
+use Rattle.cache_model.specs.Tokens.{token_text}
 
--- Why a line changes nothing.
+-- Why a line changes nothing. A key and a value carry the length of theirs that is out of its limits.
 pub data Refusal : Type 0 where
+  long : Refusal
   syntax : Refusal
+  key_length : (n : ℕ) → Refusal
+  value_length : (n : ℕ) → Refusal
+  ttl : Refusal
   memory : Refusal
 
 -- A line is answered by the reply to its command, or refused.
 pub data Response : Type 0 where
   replies : (reply : Reply) → Response
   refused : (refusal : Refusal) → Response
-
--- a hexadecimal digit: 0 to 9, then a to f
-abbrev pub hex_digit : ℕ → ℕ
-hex_digit n = if nat_lt n 10 then 48 + n else 87 + n
-
--- a byte within a token: itself, or a percent sign and two hexadecimal digits
-abbrev pub byte_text : ℕ → List ℕ
-byte_text byte = if is_plain_byte byte then byte ∷ [] else 37 ∷ hex_digit (byte / 16) ∷ hex_digit (byte % 16) ∷ []
-
--- some bytes as a token; `%.` stands for none
-abbrev pub token_text : List ℕ → List ℕ
-token_text [] = codes "%."
-token_text (byte ∷ bytes) = flat_map byte_text (byte ∷ bytes)
 
 abbrev pub turned_text : Turned → List ℕ
 turned_text turned.Done = codes "done"
@@ -65,7 +56,11 @@ reply_text Halted = codes "halted"
 
 -- the text of each refusal
 abbrev pub refusal_text : Refusal → List ℕ
+refusal_text long = codes "refused long"
 refusal_text syntax = codes "refused syntax"
+refusal_text (key_length n) = codes "refused key " ++ decimal n
+refusal_text (value_length n) = codes "refused value " ++ decimal n
+refusal_text ttl = codes "refused ttl"
 refusal_text memory = codes "refused memory"
 
 -- the text of an answer

@@ -1,10 +1,16 @@
 // Keys, values and prefixes: lists of bytes within the limits of `specs/Limits.antt`.
 ghost use Rattle.std.specs.Prelude.{◌≡◌, ◌⊎◌, length, IfOk, IfErr, MatchResult};
 ghost use Rattle.cache_model.specs.Limits.{IsKeyLength, IsValueLength};
+ghost use Rattle.std.specs.Prelude.{nat_eq, Some};
+ghost use Rattle.std.specs.Ordering.{nat_cmp};
+ghost use Rattle.std.specs.Cmp.{partial_equiv_from_equiv};
+ghost use Rattle.std.specs.Cmp.Lexicographic.{pointwise, slice_cmp, nat_list_eq_equiv, nat_list_cmp_total, texts_ties, texts_po};
+ghost use Rattle.std.proofs.Common.{rules};
 ghost use Rattle.cache_model.specs.declared.faults.ModelFault.TheVariants.{KeyLength, ValueLength, Memory};
 
 use crate::ModelFault;
 use std::alloc::Global;
+use std::cmp::Ordering;
 use std::marker::Model;
 
 /// The greatest length of a key and of a prefix, in bytes. The least of a key is 1.
@@ -61,6 +67,45 @@ impl Key {
         ensures within { IsKeyLength (length self.now) }
     {
         &self.bytes
+    }
+}
+
+// Keys are compared by their bytes.
+impl PartialEq for Key {
+    ghost eq = { pointwise nat_eq };
+
+    ghost laws = { partial_equiv_from_equiv nat_list_eq_equiv };
+
+    fn eq(&self, other: &Key) -> bool {
+        self.bytes() == other.bytes()
+    }
+}
+
+impl Eq for Key {
+    ghost laws = { nat_list_eq_equiv };
+}
+
+impl PartialOrd for Key {
+    ghost partial_cmp = { λ one other. Some (slice_cmp nat_cmp one other) };
+
+    ghost laws = { texts_po };
+
+    fn partial_cmp(&self, other: &Key) -> Option<Ordering> {
+        Some(self.cmp(other))
+    }
+}
+
+impl Ord for Key {
+    ghost cmp = { slice_cmp nat_cmp };
+
+    ghost total = { nat_list_cmp_total };
+
+    ghost matches_partial_cmp = { Prim.search rules };
+
+    ghost matches_eq = { texts_ties };
+
+    fn cmp(&self, other: &Key) -> Ordering {
+        self.bytes().cmp(other.bytes())
     }
 }
 

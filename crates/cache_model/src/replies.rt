@@ -1,5 +1,8 @@
 // What a command is answered, and how the program ends.
 ghost use Rattle.std.specs.Prelude.{◌≡◌, ◌++◌, [], ◌∷◌, OnOk, OnErr, IfErr};
+ghost use Rattle.std.specs.List.Sorted.{IsPermutation, IsSorted};
+ghost use Rattle.std.specs.Ordering.{nat_cmp};
+ghost use Rattle.std.specs.Cmp.Lexicographic.{slice_cmp};
 ghost use Rattle.cache_model.specs.declared.faults.ModelFault.TheVariants.{Memory};
 
 use crate::{Key, ModelFault, Value};
@@ -66,7 +69,16 @@ impl KeyList {
         }
     }
 
-    /// The keys, in the order in which they were added.
+    /// Brings the keys into the order of their bytes.
+    pub fn sort(&mut self)
+        ensures keys { IsPermutation self.old self.new }
+        ensures ascending { IsSorted (slice_cmp nat_cmp) self.new }
+    {
+        self.keys
+            .sort_unstable_by(|one, other| one.bytes().cmp(other.bytes()));
+    }
+
+    /// The keys, in the order in which they were added, or of their bytes from a sort on.
     pub fn keys(&self) -> &[Key]
         ensures { result.now ≡ self.now }
     {

@@ -1,5 +1,10 @@
 // What a settings file says.
-use crate::Prefix;
+ghost use Rattle.std.specs.Prelude.{◌≡◌, IfOk, IfErr};
+ghost use Rattle.cache_model.specs.Settings.{default_settings};
+ghost use Rattle.cache_model.specs.declared.faults.ModelFault.TheVariants.{Memory};
+
+use crate::{ModelFault, Prefix};
+use std::alloc::Global;
 
 /// When a change reaches the store.
 #[derive(Clone, Copy, Debug, PartialEq, Eq)]
@@ -46,4 +51,29 @@ pub struct Settings {
     /// What the keys begin with that are preloaded and exported.
     pub publish: Prefix,
     pub activation: Activation,
+}
+
+impl Settings {
+    /// The settings of a directory that has no settings file.
+    pub fn defaults(alloc: Global) -> Result<Settings, ModelFault>
+        ensures defaults { IfOk result (λ settings. settings ≡ default_settings) }
+        ensures memory { IfErr result (λ fault. fault ≡ Memory) }
+    {
+        let publish = Prefix::of(alloc, &[])?;
+        Ok(Settings {
+            file_size: 16_777_216,
+            compact_below: 50,
+            queue: 1000,
+            nodes: 64,
+            hash_bits: 32,
+            sync_writes: true,
+            mode: Mode::Through,
+            behind_limit: 1024,
+            max_entries: 1000,
+            pump: 1,
+            preload: false,
+            publish,
+            activation: Activation::Keep,
+        })
+    }
 }

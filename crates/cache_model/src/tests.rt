@@ -4,6 +4,7 @@ ghost use Rattle.cache_model.specs.Commands.{IsCommand};
 
 use crate::{
     Command, Entry, Key, KeyList, Lifespan, ModelFault, PlainCache, Prefix, Reply, Until, Value,
+    hash,
 };
 use std::alloc::Global;
 use std::process::Abort;
@@ -191,12 +192,26 @@ fn lengths_have_limits(rt: HostRuntime) -> Result<(), Fail> {
 }
 
 #[test]
-fn a_list_keeps_its_order(rt: HostRuntime) -> Result<(), Fail> {
+fn a_list_keeps_its_order_until_it_is_sorted(rt: HostRuntime) -> Result<(), Fail> {
     let mut list = KeyList::new(rt.alloc());
     list.push(Key::of(rt.alloc(), b"b")?)?;
     list.push(Key::of(rt.alloc(), b"a")?)?;
     assert_eq!(rt; list.keys().len(), 2);
     assert!(rt; list.keys()[0].bytes() == b"b".as_slice());
     assert!(rt; list.keys()[1].bytes() == b"a".as_slice());
+    list.sort();
+    let text = format!(in rt.alloc(); "{list:?}")?;
+    assert!(rt; text.as_str() == "KeyList { keys: [Key { bytes: [97] }, Key { bytes: [98] }] }");
+    Ok(())
+}
+
+#[test]
+fn keys_have_their_hashes(rt: HostRuntime) -> Result<(), Fail> {
+    for (text, whole, low) in [("a", 0xe40c_292c, 0x2c), ("foobar", 0xbf9c_f968, 0x68)] {
+        let key = Key::of(rt.alloc(), text.as_bytes())?;
+        assert_eq!(rt; hash(&key, 32), whole, "{text}");
+        assert_eq!(rt; hash(&key, 8), low, "{text}");
+        assert_eq!(rt; hash(&key, 0), 0, "{text}");
+    }
     Ok(())
 }
