@@ -3,7 +3,7 @@ ghost use Rattle.std.specs.Prelude.{◌≤◌, ◌^◌, ◌<◌, ◌≡◌, List
 ghost use Rattle.cache_model.specs.Files.{IsFileName, file_in, bytes_in};
 ghost use Rattle.cache_disk.specs.State.{HostState};
 ghost use Rattle.cache_disk.specs.Faults.{store_fault};
-ghost use Rattle.cache_disk.specs.Calls.{DiskCause, SayCause, Listed, Sized, Read, Created, Wrote, Synced, Deleted, SyncedNames, Said};
+ghost use Rattle.cache_disk.specs.Calls.{AllLeft, DiskCause, SayCause, Listed, Sized, Read, Created, Wrote, Synced, Deleted, SyncedNames, Said};
 
 use cache_model::{FileName, StoreFault};
 
@@ -57,10 +57,10 @@ pub trait Host {
         ensures told { IsTrue tells → Read name at buf.old buf.new (state self.old) (state self.new) result }
         ensures cause { DiskCause (state self.old) (state self.new) result };
 
-    /// Makes an empty file. No such file is there.
+    /// Makes an empty file. No such file is there, nor may a crash leave one.
     fn create(&mut self, name: FileName) -> Result<(), HostFault>
         requires name { IsFileName name }
-        requires absent { IsTrue tells → file_in (state self.old).files name ≡ None }
+        requires absent { IsTrue tells → AllLeft (state self.old) (λ image. file_in image name ≡ None) }
         ensures told { IsTrue tells → Created name (state self.old) (state self.new) result }
         ensures cause { DiskCause (state self.old) (state self.new) result };
 

@@ -1,13 +1,13 @@
 -- What each call of the host leaves of one file, in every image.
-use Rattle.std.proofs.Common.{◌≡◌, ⊎_elim, ℕ, ◌<◌, ◌≤◌, List, [], ◌∷◌, length, Option, Some, None, IsSome, Result, refl, sym, ◌∙◌, subst, arith}
+use Rattle.std.proofs.Common.{◌≡◌, ◌⊎◌, ⊎_elim, inl, ℕ, ◌<◌, ◌≤◌, List, [], ◌∷◌, length, Option, Some, None, IsSome, Result, refl, sym, ◌∙◌, subst, arith}
 use Rattle.cache_model.specs.declared.files.FileName.{FileName}
 use Rattle.cache_model.specs.Files.{Image, file_in}
 use Rattle.cache_model.specs.DataFiles.{CountsFrames}
 use Rattle.cache_disk.specs.declared.host.HostFault.{HostFault}
 use Rattle.cache_disk.specs.State.{HostState, SameFiles, Moves}
 use Rattle.cache_disk.specs.Calls.{OnFile, AllLeft, HasFile, Torn, IsTornFrom, Tears, Makes, Settles, Created, Wrote, Synced, SyncedNames}
-use Rattle.cache_disk.proofs.Runs.{OnFile-files, HasFile-bytes, HasFile-files, HasFile-there, goes_on_file, first_on_file, weaker_on_file, left_after, left_still, left_on_file}
-use Rattle.data_file.specs.Appending.{StartsWith}
+use Rattle.cache_disk.proofs.Runs.{OnFile-files, HasFile-bytes, HasFile-files, HasFile-there, goes_on_file, first_on_file, weaker_on_file, left_after, left_still, left_on_file, started}
+use Rattle.data_file.specs.Appending.{StartsWith, IsFresh}
 use Rattle.data_file.proofs.Bytes.{torn-starts, counts-short}
 
 abbrev pub Answer : Type 0
@@ -73,28 +73,45 @@ abbrev IsShort : List ℕ → Type 0
 IsShort bytes = length bytes ≤ 1
 
 module _ (name : FileName) (a : HostState) (absent : AllLeft a (λ m. file_in m name ≡ None)) where
-  pub made_created : (b : HostState) (answer : Answer) → Created name a b answer → Moves a b (OnFile name IsShort)
-  made_created b answer created = first_on_file a b name IsShort _ created.turn.images keeps
+  pub made_created : (b : HostState) (answer : Answer) → Created name a b answer → Moves a b (OnFile name (CountsFrames []))
+  made_created b answer created = first_on_file a b name (CountsFrames []) _ created.turn.images keeps
     where
-      keeps : (d m : Image) → a.left a.turn d → Makes name d m → OnFile name IsShort d m
+      keeps : (d m : Image) → a.left a.turn d → Makes name d m → OnFile name (CountsFrames []) d m
       keeps d m left step = record {
         others = step.others;
         stays = λ there. let none : file_in d name ≡ None = absent d left in cc;
-        file = λ bytes is. ⊎_elim (λ none. cc) (λ empty. let nil : bytes ≡ [] = cc in subst IsShort (sym nil) (omega arith)) step.made;
+        file = λ bytes is. ⊎_elim (λ none. cc) (λ empty. let nil : bytes ≡ [] = cc in counts-short bytes (subst IsShort (sym nil) (omega arith))) step.made;
       }
 
-  pub made_wrote : (b c : HostState) (answer : Answer) → Moves a b (OnFile name IsShort) → Wrote name 0 (0 ∷ []) b c answer → Moves a c (OnFile name IsShort)
-  made_wrote b c answer ab wrote =
-      write_goes_on name IsShort a b c 0 (0 ∷ []) answer ab wrote (λ e old new left is torn. let short : length old ≤ 1 = left_made name IsShort a b ab absent e left old is in omega (arith, torn.no_longer))
+  -- it is fresh then
+  pub made_fresh : (b : HostState) (answer : Answer) → Created name a b answer → file_in b.files name ≡ Some [] → IsFresh name b
+  made_fresh b answer created reads = record {
+    reads = reads;
+    images = left_still a b (Makes name) (λ m. (file_in m name ≡ None) ⊎ (file_in m name ≡ Some [])) created.turn.images (λ m left. inl (absent m left)) (λ d m was step. step.made);
+  }
 
-  pub made_synced : (b c : HostState) (answer : Answer) → Moves a b (OnFile name IsShort) → Synced name b c answer → Moves a c (OnFile name IsShort)
-  made_synced b c answer ab synced = sync_goes_on name IsShort a b c answer ab (left_made name IsShort a b ab absent) synced
+  pub made_begun : (b c : HostState) → Moves a b (OnFile name (CountsFrames [])) → Moves b c (OnFile name (CountsFrames [])) → Moves a c (OnFile name (CountsFrames []))
+  made_begun b c ab bc = goes_on_file a b c name (CountsFrames []) (OnFile name (CountsFrames [])) ab bc (λ e m left step. step)
 
-  pub made_names : (b c : HostState) (answer : Answer) → Moves a b (OnFile name IsShort) → SyncedNames b c answer → Moves a c (OnFile name IsShort)
-  made_names b c answer ab synced = names_goes_on name IsShort a b c answer ab (left_made name IsShort a b ab absent) synced
+module _ (name : FileName) (a : HostState) (fresh : IsFresh name a) where
+  short_at_first : AllLeft a (Only name IsShort)
+  short_at_first m left bytes is = ⊎_elim (λ none. cc) (λ empty. let nil : bytes ≡ [] = cc in subst IsShort (sym nil) (omega arith)) (fresh.images m left)
 
-  pub made_counts : (b : HostState) → Moves a b (OnFile name IsShort) → Moves a b (OnFile name (CountsFrames []))
-  made_counts b ab = weaker_on_file a b name IsShort (CountsFrames []) ab counts-short
+  short_now : (b : HostState) → Moves a b (OnFile name IsShort) → AllLeft b (Only name IsShort)
+  short_now b ab = left_still a b (OnFile name IsShort) (Only name IsShort) ab short_at_first (λ d m was step. step.file)
+
+  pub begun_wrote : (c : HostState) (answer : Answer) → Wrote name 0 (0 ∷ []) a c answer → Moves a c (OnFile name IsShort)
+  begun_wrote c answer wrote =
+      write_goes_on name IsShort a a c 0 (0 ∷ []) answer (started a (OnFile name IsShort)) wrote (λ e old new left is torn. let short : length old ≤ 1 = short_at_first e left old is in omega (arith, torn.no_longer))
+
+  pub begun_synced : (b c : HostState) (answer : Answer) → Moves a b (OnFile name IsShort) → Synced name b c answer → Moves a c (OnFile name IsShort)
+  begun_synced b c answer ab synced = sync_goes_on name IsShort a b c answer ab (short_now b ab) synced
+
+  pub begun_names : (b c : HostState) (answer : Answer) → Moves a b (OnFile name IsShort) → SyncedNames b c answer → Moves a c (OnFile name IsShort)
+  begun_names b c answer ab synced = names_goes_on name IsShort a b c answer ab (short_now b ab) synced
+
+  pub begun_counts : (b : HostState) → Moves a b (OnFile name IsShort) → Moves a b (OnFile name (CountsFrames []))
+  begun_counts b ab = weaker_on_file a b name IsShort (CountsFrames []) ab counts-short
 
 -- writes behind what every image has
 

@@ -1,5 +1,5 @@
 -- What an appender stands for: the frames that are sealed in its file, and the records written behind them.
-use Rattle.std.specs.Prelude.{◌≡◌, ◌⊎◌, ℕ, ◌+◌, Bool, true, false, List, [], ◌∷◌, ◌++◌, length, take, flat_map, All, Some, if◌then◌else◌}
+use Rattle.std.specs.Prelude.{◌≡◌, ◌⊎◌, ℕ, ◌+◌, Bool, true, false, List, [], ◌∷◌, ◌++◌, length, take, flat_map, All, None, Some, if◌then◌else◌}
 use Rattle.cache_model.specs.declared.faults.StoreFault.{StoreFault}
 use Rattle.cache_model.specs.declared.faults.StoreFault.TheVariants.{Failed, Memory, Spent, Damaged}
 use Rattle.cache_model.specs.declared.files.FileName.{FileName}
@@ -25,6 +25,18 @@ is_spoilt appender = appender.spoilt
 -- how many bytes are due before the next item: the version byte, where it isn't in the file yet
 abbrev pub due_bytes : Appender → ℕ
 due_bytes appender = if appender.versioned then 0 else 1
+
+-- An appender of a file that has nothing but its closed gate.
+pub record IsNewAppender (name : FileName) (appender : Appender) : Type 0 where
+  pub named : name_of appender ≡ name
+  pub size : size_of appender ≡ 1
+  pub due : due_bytes appender ≡ 1
+  pub sound : is_spoilt appender ≡ false
+
+-- The file was created: it is empty, and every image has it empty or doesn't have it.
+pub record IsFresh (name : FileName) (state : HostState) : Type 0 where
+  pub reads : file_in state.files name ≡ Some []
+  pub images : AllLeft state (λ image. (file_in image name ≡ None) ⊎ (file_in image name ≡ Some []))
 
 -- the spelling of one record
 abbrev pub IsRecordSpelling : List ℕ → Type 0

@@ -6,7 +6,7 @@ ghost use Rattle.cache_model.specs.Items.{Item, IsRecord, spelling};
 ghost use Rattle.cache_model.specs.DataFiles.{Frame, CountsFrames};
 ghost use Rattle.cache_disk.specs.State.{SameBut, Silent, Moves, Stands};
 ghost use Rattle.cache_disk.specs.Calls.{Wrote, DiskCause, HasStoreCause, OnFile, AllLeft};
-ghost use Rattle.data_file.specs.Appending.{name_of, size_of, is_spoilt, due_bytes, ending, IsRecordSpelling, next_place, StandsFor, IsStanding, IsSettled, sealed, CountsOneOf, IsHostly};
+ghost use Rattle.data_file.specs.Appending.{name_of, size_of, is_spoilt, due_bytes, ending, IsRecordSpelling, IsNewAppender, IsFresh, next_place, StandsFor, IsStanding, IsSettled, sealed, CountsOneOf, IsHostly};
 
 use byteorder::{BigEndian, ByteOrder};
 use cache_disk::{Host, HostFault};
@@ -42,14 +42,11 @@ fn ending(moment: u64) -> [u8; 11]
 }
 
 impl Appender {
-    /// Makes the file, with its closed gate.
+    /// Makes the file, with its closed gate: what `create` of the host does, and then `begin`.
     pub fn make<H: Host>(host: &mut H, name: FileName) -> Result<Appender, StoreFault>
         requires name { IsFileName name }
         requires absent { IsTrue H.tells → AllLeft (H.state host.old) (λ image. file_in image name ≡ None) }
-        ensures named { IfOk result (λ made. name_of made ≡ name) }
-        ensures size { IfOk result (λ made. size_of made ≡ 1) }
-        ensures due { IfOk result (λ made. due_bytes made ≡ 1) }
-        ensures sound { IfOk result (λ made. is_spoilt made ≡ false) }
+        ensures new { IfOk result (IsNewAppender name) }
         ensures stands { IsTrue H.tells → IfOk result (λ made. StandsFor made (H.state host.new) [] []) }
         ensures settled { IsTrue H.tells → OnOk result (IsSettled name (H.state host.new)) }
         ensures images { IsTrue H.tells → Moves (H.state host.old) (H.state host.new) (OnFile name (CountsFrames [])) }
@@ -59,6 +56,22 @@ impl Appender {
         ensures cause { HasStoreCause (H.state host.old) (H.state host.new) result }
     {
         host.create(name)?;
+        Appender::begin(host, name)
+    }
+
+    /// Writes the closed gate of a file that was created and is empty yet, and has it outlast a crash.
+    pub fn begin<H: Host>(host: &mut H, name: FileName) -> Result<Appender, StoreFault>
+        requires name { IsFileName name }
+        requires fresh { IsTrue H.tells → IsFresh name (H.state host.old) }
+        ensures new { IfOk result (IsNewAppender name) }
+        ensures stands { IsTrue H.tells → IfOk result (λ made. StandsFor made (H.state host.new) [] []) }
+        ensures settled { IsTrue H.tells → OnOk result (IsSettled name (H.state host.new)) }
+        ensures images { IsTrue H.tells → Moves (H.state host.old) (H.state host.new) (OnFile name (CountsFrames [])) }
+        ensures faults { IfErr result IsHostly }
+        ensures others { IsTrue H.tells → SameBut name (H.state host.old).files (H.state host.new).files }
+        ensures silent { IsTrue H.tells → Silent (H.state host.old) (H.state host.new) }
+        ensures cause { HasStoreCause (H.state host.old) (H.state host.new) result }
+    {
         host.write(name, 0, &[CLOSED])?;
         host.sync(name)?;
         host.sync_names()?;
