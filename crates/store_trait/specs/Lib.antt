@@ -1,0 +1,7 @@
+pub mod Meaning
+pub mod Keeping
+pub mod Calls
+pub mod Places
+pub mod Held
+pub mod Rooms
+pub mod Heap

@@ -1,0 +1,100 @@
+// The traits of stores.
+ghost use Rattle.std.specs.Prelude.{◌≡◌, ◌≤◌, ◌<◌, IsTrue, option_map, true, false};
+ghost use Rattle.cache_disk.specs.State.{HostState};
+ghost use Rattle.cache_disk.specs.Calls.{HasStoreCause};
+ghost use Rattle.store_trait.specs.Meaning.{StoreFacts, StoreState, IsChange};
+ghost use Rattle.store_trait.specs.Keeping.{Leaves, Carries, HoldsNow};
+ghost use Rattle.store_trait.specs.Calls.{IsReady, Plainly, DrawsBy, DrawsNone, DrawsOne, Loaded, Walked, Written, SyncedStore, Stepped};
+
+use cache_disk::Host;
+use cache_model::{Answer, Change, Key, StepKind, StoreFault, Turned};
+
+/// What a store stands for, and what can be asked of it without a host.
+pub trait Keyed {
+    /// What is known of it whatever the host tells.
+    ghost facts: { Self → StoreFacts };
+
+    /// What it stands for on a host that tells its contents.
+    ghost means: { Self → HostState → StoreState };
+
+    /// How many bits of the keys' hash the walk order has.
+    fn hash_bits(&self) -> u32
+        ensures { result ≡ (facts self.now).bits };
+
+    /// Whether it may be used no more.
+    fn is_spoilt(&self) -> bool
+        ensures { result ≡ (facts self.now).spoilt };
+}
+
+/// A store that can be read.
+pub trait ReadStore<H: Host>: Keyed {
+    /// What the store has of a key.
+    fn load(&mut self, host: &mut H, key: &Key, moment: u64) -> Result<Answer, StoreFault>
+        requires ready { IsReady (Self.facts self.old) moment }
+        requires stands { IsTrue H.tells → (Self.means self.old (H.state host.old)).stands }
+        ensures plain { Plainly (Self.facts self.old) (Self.facts self.new) moment result }
+        ensures draws { DrawsNone (Self.facts self.old) (Self.facts self.new) }
+        ensures told { IsTrue H.tells → Loaded key.now (Self.facts self.old) (Self.facts self.new)
+            (Self.means self.old (H.state host.old)) (Self.means self.new (H.state host.new)) (H.state host.old) (H.state host.new) moment result }
+        ensures cause { HasStoreCause (H.state host.old) (H.state host.new) result };
+
+    /// The first visible key behind another in walk order, or the first of all.
+    fn next_key(
+        &mut self,
+        host: &mut H,
+        after: Option<&Key>,
+        moment: u64,
+    ) -> Result<Option<Key>, StoreFault>
+        requires ready { IsReady (Self.facts self.old) moment }
+        requires stands { IsTrue H.tells → (Self.means self.old (H.state host.old)).stands }
+        ensures plain { Plainly (Self.facts self.old) (Self.facts self.new) moment result }
+        ensures draws { DrawsNone (Self.facts self.old) (Self.facts self.new) }
+        ensures told { IsTrue H.tells → Walked (option_map (λ key. key.now) after.entry) (Self.facts self.old) (Self.facts self.new)
+            (Self.means self.old (H.state host.old)) (Self.means self.new (H.state host.new)) (H.state host.old) (H.state host.new) moment result }
+        ensures cause { HasStoreCause (H.state host.old) (H.state host.new) result };
+
+    /// What holds between two calls.
+    ghost holds_now: { (store : Self) (host : H) → IsTrue H.tells
+        → (Self.facts store).spoilt ≡ false
+        → (Self.means store (H.state host)).stands
+        → HoldsNow (Self.facts store) (Self.means store (H.state host)) (H.state host).turn };
+
+    /// Calls that leave its own files alone leave what it stands for.
+    ghost frame: { (store : Self) (host later : H) → IsTrue H.tells
+        → Leaves (Self.facts store).owns true (H.state host) (H.state later)
+        → Carries (H.state host).turn (H.state later).turn (Self.means store (H.state host)) (Self.means store (H.state later)) };
+}
+
+/// A store that can be changed.
+pub trait Store<H: Host>: ReadStore<H> {
+    /// Makes the change the content of its key.
+    fn write(&mut self, host: &mut H, change: &Change, moment: u64) -> Result<(), StoreFault>
+        requires ready { IsReady (Self.facts self.old) moment }
+        requires stands { IsTrue H.tells → (Self.means self.old (H.state host.old)).stands }
+        requires change { IsChange change.now }
+        ensures plain { Plainly (Self.facts self.old) (Self.facts self.new) moment result }
+        ensures draws { DrawsOne (Self.facts self.old) (Self.facts self.new) result }
+        ensures told { IsTrue H.tells → Written change.now (Self.facts self.old) (Self.facts self.new)
+            (Self.means self.old (H.state host.old)) (Self.means self.new (H.state host.new)) (H.state host.old) (H.state host.new) moment result }
+        ensures cause { HasStoreCause (H.state host.old) (H.state host.new) result };
+
+    /// After Ok a crash leaves the content.
+    fn sync(&mut self, host: &mut H, moment: u64) -> Result<(), StoreFault>
+        requires ready { IsReady (Self.facts self.old) moment }
+        requires stands { IsTrue H.tells → (Self.means self.old (H.state host.old)).stands }
+        ensures plain { Plainly (Self.facts self.old) (Self.facts self.new) moment result }
+        ensures draws { DrawsNone (Self.facts self.old) (Self.facts self.new) }
+        ensures told { IsTrue H.tells → SyncedStore (Self.facts self.old) (Self.facts self.new)
+            (Self.means self.old (H.state host.old)) (Self.means self.new (H.state host.new)) (H.state host.old) (H.state host.new) moment result }
+        ensures cause { HasStoreCause (H.state host.old) (H.state host.new) result };
+
+    /// One action of a background actor.
+    fn step(&mut self, host: &mut H, moment: u64, kind: StepKind) -> Result<Turned, StoreFault>
+        requires ready { IsReady (Self.facts self.old) moment }
+        requires stands { IsTrue H.tells → (Self.means self.old (H.state host.old)).stands }
+        ensures plain { Plainly (Self.facts self.old) (Self.facts self.new) moment result }
+        ensures draws { DrawsBy kind (Self.facts self.old) (Self.facts self.new) result }
+        ensures told { IsTrue H.tells → Stepped kind (Self.facts self.old) (Self.facts self.new)
+            (Self.means self.old (H.state host.old)) (Self.means self.new (H.state host.new)) (H.state host.old) (H.state host.new) moment result }
+        ensures cause { HasStoreCause (H.state host.old) (H.state host.new) result };
+}
