@@ -1,0 +1,12 @@
+use Rattle.std.proofs.Common.{◌≡◌, take, IsTrue}
+use Rattle.cache_disk.specs.State.{Stands}
+use Rattle.soft_index.proofs.Readings.{HaveRead}
+use Rattle.soft_index.proofs.reading.read_all.Given as goal
+
+abbrev pub invariant-loop-number : goal.invariant-loop-number
+invariant-loop-number g l = record {
+  faults : (g.H.Host.state l.host).disk_faults ≡ (g.H.Host.state l.fn.host).disk_faults;
+  says : (g.H.Host.state l.host).say_faults ≡ (g.H.Host.state l.fn.host).say_faults;
+  stands : IsTrue g.H.Host.tells → Stands (g.H.Host.state l.fn.host) (g.H.Host.state l.host);
+  read : IsTrue g.H.Host.tells → HaveRead (g.H.Host.state l.fn.host).files (take l.number-index l.numbers) l.table;
+}

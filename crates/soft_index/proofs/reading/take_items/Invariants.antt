@@ -1,0 +1,20 @@
+use Rattle.std.proofs.Common.{◌≡◌, false, IsTrue}
+use Rattle.cache_model.specs.Files.{bytes_in}
+use Rattle.cache_model.specs.Images.{log_name}
+use Rattle.cache_disk.specs.State.{Stands}
+use Rattle.data_file.specs.Scanning.{scanned_name, is_spoilt, left_of}
+use Rattle.soft_index.proofs.Scans.{Taking}
+use Rattle.soft_index.proofs.reading.take_items.Given as goal
+
+abbrev pub invariant-loop-one : goal.invariant-loop-one
+invariant-loop-one g l = record {
+  sound : is_spoilt l.scan ≡ false;
+  name : scanned_name l.scan ≡ log_name l.number;
+  faults : (g.H.Host.state l.host).disk_faults ≡ (g.H.Host.state l.fn.host).disk_faults;
+  says : (g.H.Host.state l.host).say_faults ≡ (g.H.Host.state l.fn.host).say_faults;
+  stands : IsTrue g.H.Host.tells → Stands (g.H.Host.state l.fn.host) (g.H.Host.state l.host);
+  taking : IsTrue g.H.Host.tells → Taking l.number (bytes_in (g.H.Host.state l.fn.host).files (log_name l.number)) l.fn.scan l.scan l.fn.table l.table;
+}
+
+abbrev pub decreases-loop-one : goal.decreases-loop-one
+decreases-loop-one g l = left_of l.scan

@@ -1,0 +1,29 @@
+use Rattle.std.proofs.Common.{refl}
+use Rattle.soft_index.specs.declared.log_store.LogStore.{LogStore}
+use Rattle.soft_index.specs.Store.{content_of}
+use Rattle.soft_index.proofs.Images.{still_acts, as_was}
+use Rattle.soft_index.proofs.store.LogStoreReadStore.next_key.Goals as goal
+
+pub returns-in-Ok-clause-told : goal.returns-in-Ok-clause-told
+returns-in-Ok-clause-told g c told =
+    let old = c.args.self.now in
+    let new : LogStore = record old { latest = c.args.moment } in
+    let stands = c.requires.stands told in
+    record {
+      acts = still_acts old new (g.H.Host.state c.args._host.now) c.args.moment (content_of old) stands.0 stands.1 _ stands.2 c.requires.ready.unspoilt c.requires.ready.late refl c.requires.ready.usable.log (as_was old new refl refl refl refl (λ key. refl)) (λ d err. cc) (λ s err. cc);
+      content = λ key. refl;
+      next = c.in-Ok.ensures.next;
+      parts = refl;
+    }
+
+pub returns-in-Err-clause-told : goal.returns-in-Err-clause-told
+returns-in-Err-clause-told g c told =
+    let old = c.args.self.now in
+    let new : LogStore = record old { latest = c.args.moment } in
+    let stands = c.requires.stands told in
+    record {
+      acts = still_acts old new (g.H.Host.state c.args._host.now) c.args.moment (content_of old) stands.0 stands.1 _ stands.2 c.requires.ready.unspoilt c.requires.ready.late refl c.requires.ready.usable.log (as_was old new refl refl refl refl (λ key. refl)) (λ d err. cc) (λ s err. cc);
+      content = λ key. refl;
+      next = tt;
+      parts = tt;
+    }

@@ -1,0 +1,54 @@
+-- What a store with its rule stands for, and what it is to open one.
+use Rattle.std.specs.Prelude.{◌≡◌, ℕ, Bool, List, Some, None}
+use Rattle.std.specs.Fn.{Shared, always_fn}
+use denote.Ref.{Bor}
+use Rattle.cache_model.specs.declared.settings.Settings.{Settings}
+use Rattle.cache_model.specs.Files.{Image}
+use Rattle.cache_model.specs.Images.{IsCounted, IsMark, IsSound}
+use Rattle.cache_model.specs.Numbers.{IsNextSequence, IsNextFile}
+use Rattle.cache_disk.specs.State.{HostState, SameFiles, Silent, Moves}
+use Rattle.store_trait.specs.Meaning.{Numbers, StoreFacts, StoreState, read_in}
+use Rattle.soft_index.specs.declared.log_store.LogStore.{LogStore}
+use Rattle.soft_index.specs.declared.soft_index.SoftIndex.{SoftIndex}
+use Rattle.soft_index.specs.Rule.{AnswersAlike, Allows, ruled}
+use Rattle.soft_index.specs.Store.{IsUsable, HasReading, row_of, log_facts, log_means}
+
+module _ {F : Type 0} (g : Shared F (Bor (List ℕ) × Unit {0}) Bool) where
+  -- a rule may be called on every key, and answers equal keys alike
+  abbrev pub IsRule : F → Type 0
+  IsRule rule = always_fn g rule × AnswersAlike g rule
+
+  -- what is known of it whatever the host tells
+  abbrev pub index_facts : SoftIndex F → StoreFacts
+  index_facts store = ruled (log_facts store.log) (IsUsable store.log × IsRule store.forget) (Allows g store.forget)
+
+-- its log: the entries with what writes them to the files
+abbrev pub log_of : {F : Type 0} → SoftIndex F → LogStore
+log_of store = store.log
+
+-- its rule
+abbrev pub rule_of : {F : Type 0} → SoftIndex F → F
+rule_of store = store.forget
+
+-- what it stands for on a host that tells its contents
+abbrev pub index_means : {F : Type 0} → SoftIndex F → HostState → StoreState
+index_means store state = log_means store.log state
+
+-- The store was opened from these files: it has their content and mark, it goes on with the next numbers, and it goes by
+-- the settings.
+pub record IsStarted (files : Image) (settings : Settings) (facts : StoreFacts) (state : StoreState) (mark : ℕ) : Type 0 where
+  pub stands : state.stands
+  pub content : (key : List ℕ) → HasReading (IsCounted files) key (read_in state.content key)
+  pub mark_is : IsMark files mark
+  pub latest : facts.latest ≡ mark
+  pub undamaged : IsSound files
+  pub numbers : (next : Numbers) × (facts.numbers ≡ Some next) × IsNextSequence files next.sequence × IsNextFile files next.file
+  pub bits : facts.bits ≡ settings.hash_bits
+  pub firm : facts.firm ≡ settings.sync_writes
+  pub parts : facts.parts ≡ row_of None
+
+-- The files were read, and were told to outlast a crash: each is as it was, and so is each image.
+pub record IsRead (old new : HostState) : Type 0 where
+  pub files : SameFiles old.files new.files
+  pub images : Moves old new SameFiles
+  pub silent : Silent old new

@@ -1,0 +1,5 @@
+pub mod Opening
+pub mod Store
+pub mod Laws
+pub mod Rule
+pub mod Index

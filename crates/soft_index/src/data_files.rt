@@ -1,0 +1,118 @@
+// The data files of a directory, and what settles them.
+ghost use Rattle.std.specs.Option.{option_to_list};
+ghost use Rattle.std.specs.Prelude.{◌≡◌, ◌↔◌, ◌++◌, ℕ, filter_map, ◌+◌, ◌<◌, ◌≤◌, All, Contains, IsTrue, IsSome, IfOk, OnOk, IfErr, IsErrOf};
+ghost use Rattle.std.specs.List.Sorted.{IsNonDecreasing};
+ghost use Rattle.cache_model.specs.declared.faults.StoreFault.TheVariants as fault;
+ghost use Rattle.cache_model.specs.declared.faults.Spent.{Spent};
+ghost use Rattle.cache_model.specs.declared.faults.Damage.{Damage};
+ghost use Rattle.cache_model.specs.Files.{IsFileName, file_in};
+ghost use Rattle.cache_model.specs.Images.{log_name};
+ghost use Rattle.cache_disk.specs.State.{SameFiles, Silent, Moves};
+ghost use Rattle.cache_disk.specs.Calls.{DiskCause, HasStoreCause, AllLeft};
+ghost use Rattle.soft_index.specs.Opening.{number_in, IsNumber, IsBehind, IsSettledAll, SameLogs};
+
+use cache_disk::{Host, HostFault};
+use cache_model::{FileKind, FileName, StoreFault};
+use std::alloc::Global;
+
+// The number of a data file of the main store.
+fn number_in(name: FileName) -> Option<u32>
+    ensures { result ≡ number_in name }
+{
+    match name.kind {
+        FileKind::Log => { if name.store == 0 { Some(name.id) } else { None } }
+        FileKind::Rules | FileKind::Tree | FileKind::Base => None,
+    }
+}
+
+/// The data file of the main store with this number.
+pub(crate) fn log_name(number: u32) -> FileName
+    ensures { result ≡ log_name number }
+{
+    FileName {
+        kind: FileKind::Log,
+        store: 0,
+        id: number,
+    }
+}
+
+// One number more at the end, where there is one.
+fn keep(numbers: &mut Vec<u32>, number: Option<u32>) -> Result<(), StoreFault>
+    ensures kept { OnOk result (numbers.new.items ≡ numbers.old.items ++ option_to_list number) }
+    ensures memory { IfErr result (λ given. given ≡ fault.Memory) }
+{
+    if let Some(number) = number {
+        if numbers.push(number).is_err() {
+            return Err(StoreFault::Memory);
+        }
+    }
+    Ok(())
+}
+
+// The numbers of the data files of the main store among these, in the order of the names.
+fn listed_numbers(alloc: Global, names: &[FileName]) -> Result<Vec<u32>, StoreFault>
+    ensures numbers { IfOk result (λ numbers. numbers.items ≡ filter_map number_in names.now) }
+    ensures memory { IfErr result (λ given. given ≡ fault.Memory) }
+{
+    let mut numbers = Vec::new(alloc);
+    for name in names {
+        keep(&mut numbers, number_in(*name))?;
+    }
+    Ok(numbers)
+}
+
+/// The numbers of the data files of the main store among these, rising.
+pub(crate) fn numbers_of(alloc: Global, names: &[FileName]) -> Result<Vec<u32>, StoreFault>
+    requires { All IsFileName names.now }
+    ensures each { IfOk result (λ numbers. (n : ℕ) → (Contains numbers.items n ↔ Contains names.now (log_name n))) }
+    ensures rising { IfOk result (λ numbers. IsNonDecreasing numbers.items) }
+    ensures within { IfOk result (λ numbers. All IsNumber numbers.items) }
+    ensures memory { IfErr result (λ given. given ≡ fault.Memory) }
+{
+    let mut numbers = listed_numbers(alloc, names)?;
+    numbers.sort_unstable();
+    Ok(numbers)
+}
+
+/// The number behind the last of these, which rise.
+pub(crate) fn number_behind(numbers: &[u32]) -> u32
+    requires within { All IsNumber numbers.now }
+    requires rising { IsNonDecreasing numbers.now }
+    ensures some { 1 ≤ result }
+    ensures behind { IsBehind numbers.now result }
+{
+    match numbers.last() {
+        Some(last) => *last + 1,
+        None => 1,
+    }
+}
+
+// Makes what is read of these data files outlast a crash.
+fn sync_files<H: Host>(host: &mut H, numbers: &[u32]) -> Result<(), HostFault>
+    requires within { All IsNumber numbers.now }
+    requires there { IsTrue H.tells → All (λ n. IsSome (file_in (H.state host.old).files (log_name n))) numbers.now }
+    ensures images { IsTrue H.tells → Moves (H.state host.old) (H.state host.new) SameFiles }
+    ensures files { IsTrue H.tells → SameFiles (H.state host.old).files (H.state host.new).files }
+    ensures settled { IsTrue H.tells → OnOk result (AllLeft (H.state host.new) (IsSettledAll numbers.now (H.state host.old).files)) }
+    ensures silent { IsTrue H.tells → Silent (H.state host.old) (H.state host.new) }
+    ensures cause { DiskCause (H.state host.old) (H.state host.new) result }
+{
+    for number in numbers {
+        host.sync(log_name(*number))?;
+    }
+    Ok(())
+}
+
+/// Makes what is read of these data files, and the names of all files, outlast a crash. They are all the data files.
+pub(crate) fn settle<H: Host>(host: &mut H, numbers: &[u32]) -> Result<(), HostFault>
+    requires within { All IsNumber numbers.now }
+    requires each { IsTrue H.tells → (n : ℕ) → (Contains numbers.now n ↔ IsSome (file_in (H.state host.old).files (log_name n))) }
+    ensures images { IsTrue H.tells → Moves (H.state host.old) (H.state host.new) SameFiles }
+    ensures files { IsTrue H.tells → SameFiles (H.state host.old).files (H.state host.new).files }
+    ensures settled { IsTrue H.tells → OnOk result (AllLeft (H.state host.new) (SameLogs (H.state host.old).files)) }
+    ensures silent { IsTrue H.tells → Silent (H.state host.old) (H.state host.new) }
+    ensures cause { DiskCause (H.state host.old) (H.state host.new) result }
+{
+    sync_files(host, numbers)?;
+    host.sync_names()
+}

@@ -1,0 +1,17 @@
+//! The store over the data files of a directory, with its entries in memory.
+#![tactic(auto)]
+
+mod data_files;
+mod log_store;
+mod newest;
+mod opening;
+mod reading;
+mod soft_index;
+mod spelling;
+mod store;
+mod writing;
+
+pub use soft_index::SoftIndex;
+
+#[cfg(test)]
+mod tests;
