@@ -1,4 +1,4 @@
-pub mod Held
-pub mod Opening
-pub mod Session
-pub mod Started
+pub mod Changing
+pub mod Turns
+pub mod Conditions
+pub mod Walks

@@ -1,12 +1,15 @@
-//! A session of the store: the entries in memory, the log file and the moment.
+//! A session: every client command over any store.
 #![tactic(auto)]
 
-mod data_files;
-mod entries;
-mod newest;
-mod opening;
-mod reading;
+mod calls;
+mod conditions;
+mod event;
+mod reads;
 mod session;
+#[cfg(test)]
+mod tests;
+mod walks;
+mod writes;
 
-pub use opening::StartFault;
+pub use event::Event;
 pub use session::Session;

@@ -1,0 +1,16 @@
+use Rattle.std.proofs.Common.{IsTrue}
+use Rattle.std.specs.Prelude.{Ok}
+use Rattle.cache_disk.specs.Calls.{HasStoreCause}
+use Rattle.store_trait.specs.Calls.{IsReady}
+use Rattle.store_trait.specs.Keeping.{SameStore}
+use Rattle.cache_session.proofs.Listing.{Listing}
+use Rattle.cache_session.proofs.walks.keys.Given as goal
+
+abbrev pub invariant-loop : goal.invariant-loop
+invariant-loop g l = record {
+  ready : IsReady (g.S.Keyed.facts l.store) l.moment;
+  same : SameStore (g.S.Keyed.facts l.fn.store) (g.S.Keyed.facts l.store);
+  cause : HasStoreCause {T = Unit {0}} (g.H.Host.state l.fn.host) (g.H.Host.state l.host) (Ok tt);
+  told : IsTrue g.H.Host.tells → Listing (g.S.Keyed.facts l.fn.store) (g.S.Keyed.facts l.store)
+      (g.S.Keyed.means l.fn.store (g.H.Host.state l.fn.host)) (g.S.Keyed.means l.store (g.H.Host.state l.host)) (g.H.Host.state l.fn.host) (g.H.Host.state l.host) l.moment l.list;
+}
