@@ -1,5 +1,10 @@
-pub mod Commands
-pub mod LongLines
+mod ContentLemmas
 mod NameTexts
 mod Pending
+mod PieceLemmas
+mod PushingLemmas
+mod ReadingLemmas
+mod RoundTrip
 mod Taking
+mod TokenLemmas
+mod WordLemmas

@@ -3,25 +3,28 @@ use Rattle.std.proofs.Common.{◌≡◌, ℕ, zero, suc, ◌+◌, ◌-◌, ◌�
 use Rattle.std.specs.Prelude.{◌||◌, ◌==◌}
 use Rattle.std.proofs.lemmas.List.{length-take-le, drop-drop, take_all, drop_all, take-append-le, drop-append-le}
 use Rattle.std.proofs.lemmas.List.Folds.{list_any-append}
-use Rattle.cache_model.specs.Lines.{Lacks, lines_of, units_of_length}
+use Rattle.std.proofs.Common.{inl, inr}
+use Rattle.std.proofs.lemmas.Bool.{cases_lt}
+use Rattle.cache_model.specs.Lines.{Lacks, lines_of, units_of_length, content_of}
+use Rattle.cache_script.proofs.ContentLemmas.{length-content, has-content, is-long}
 use Rattle.cache_model.proofs.Cut.{cut_at-found, cut_at-last}
 use Rattle.cache_script.specs.declared.line_reader.LineReader.{LineReader}
 use Rattle.cache_script.specs.declared.line_reader.Taken.{Taken}
 use Rattle.cache_script.specs.declared.line_reader.Taken.TheVariants.{Line, Long, End, Spent}
-use Rattle.cache_script.specs.LineReader.{pending, unread, TakesPiece, TakesLine, CountsLine, SameBuffer, EndsLine, EndsInput, Takes, Exhausts, IsSpent, HasUnits}
+use Rattle.cache_script.specs.LineReader.{pending, unread, TakesPiece, TakesLine, CountsLine, EndsLine, EndsInput, Takes, Exhausts, IsSpent, HasUnits}
 
 -- So many bytes of the input's first line were taken: the input was these bytes and what is unread.
 pub record IsTaking (input : List ℕ) (reader : LineReader) (rest : List ℕ) : Type 0 where
   pub within : reader.taken ≤ length input
   pub lacks : Lacks 10 (take reader.taken input)
   pub left : drop reader.taken input ≡ unread reader rest
-  pub line : reader.taken ≤ 1048576 → reader.line.items ≡ take reader.taken input
+  pub line : reader.taken ≤ 1048577 → reader.line.items ≡ take reader.taken input
 
 -- So many bytes of the input's first line were taken.
 pub record IsTaken (input : List ℕ) (reader : LineReader) : Type 0 where
   pub within : reader.taken ≤ length input
   pub lacks : Lacks 10 (take reader.taken input)
-  pub line : reader.taken ≤ 1048576 → reader.line.items ≡ take reader.taken input
+  pub line : reader.taken ≤ 1048577 → reader.line.items ≡ take reader.taken input
 
 -- a part that lacks a byte, and one more that does
 lacks-append : (separator : ℕ) (one two : List ℕ) → Lacks separator one → Lacks separator two → Lacks separator (one ++ two)
@@ -62,7 +65,7 @@ module _ (input rest : List ℕ) (old new : LineReader) (ended : Bool) (taking :
   lacks-is : Lacks 10 (take new.taken input)
   lacks-is = subst (λ (l : List ℕ). Lacks 10 l) (sym taken-is) (lacks-append 10 (take old.taken input) (take piece.count (pending old)) taking.lacks piece.lacks)
 
-  line-is : new.taken ≤ 1048576 → new.line.items ≡ take new.taken input
+  line-is : new.taken ≤ 1048577 → new.line.items ≡ take new.taken input
   line-is short = piece.line short ∙ ap (λ (l : List ℕ). l ++ take piece.count (pending old)) (taking.line (omega (arith, short, piece.later))) ∙ sym taken-is
 
   -- the line goes on
@@ -130,14 +133,18 @@ takes_line input after units reader final taken first same counts =
 -- what the end of a line says of the input
 pub takes : (what : Taken) (input after : List ℕ) (units : ℕ) (reader final : LineReader) → IsTaken input reader → lines_of input ≡ take reader.taken input ∷ lines_of after → reader.units ≡ units → EndsLine what reader final → Takes what input after units final
 takes Line input after units reader final taken first same met =
-    let line : final.line.items ≡ take reader.taken input = met.0.same.line ∙ taken.line met.1 in
-    let size : length final.line.items ≡ reader.taken = ap length line ∙ length-take-le reader.taken input taken.within in (
-      subst (λ (l : List ℕ). TakesLine l input after units final.units) (sym line) (takes_line input after units reader final taken first same met.0),
-      omega (arith, size, met.1),
-    )
+    let line = take reader.taken input in
+    let content : content_of line ≡ final.line.items = ap content_of (sym (taken.line met.1.kept)) ∙ sym met.1.content in
+    (line, takes_line input after units reader final taken first same met.0, has-content line final.line.items content met.1.short)
 takes Long input after units reader final taken first same met =
-    let size : length (take reader.taken input) ≡ reader.taken = length-take-le reader.taken input taken.within in
-    (take reader.taken input, takes_line input after units reader final taken first same met.0, omega (arith, size, met.1))
+    let line = take reader.taken input in
+    let size : length line ≡ reader.taken = length-take-le reader.taken input taken.within in
+    let above : 1048576 < length (content_of line) =
+    elim (cases_lt 1048577 reader.taken) [
+      | inl many ↦ omega (arith, many, size, length-content line)
+      | inr few ↦ subst (λ l. 1048576 < length (content_of l)) (taken.line few) (met.1 few)
+    ] in
+    (line, takes_line input after units reader final taken first same met.0, is-long line above)
 takes End input after units reader final taken first same met = absurd met
 takes Spent input after units reader final taken first same met = exhausts input units reader taken same met.0
 
@@ -154,29 +161,29 @@ pub taken_so_far : (input rest : List ℕ) (reader : LineReader) → IsTaking in
 taken_so_far input rest reader taking = record { within = taking.within; lacks = taking.lacks; line = taking.line }
 
 -- what stays unread while nothing is taken from the buffer
-unread-same : (rest : List ℕ) (reader final : LineReader) → SameBuffer reader final → unread final rest ≡ unread reader rest
-unread-same rest reader final same = ap (λ (l : List ℕ). l ++ rest) same.waiting
+unread-same : (rest : List ℕ) (reader final : LineReader) → pending final ≡ pending reader → unread final rest ≡ unread reader rest
+unread-same rest reader final same = ap (λ (l : List ℕ). l ++ rest) same
 
 -- what the end of the input says of it
 pub takes_last : (what : Taken) (input rest : List ℕ) (units : ℕ) (reader final : LineReader) → IsTaking input reader rest → unread reader rest ≡ [] → reader.units ≡ units → HasUnits reader → EndsInput what reader final → Takes what input (unread final rest) units final
 takes_last Line input rest units reader final taking none same more ends =
     let taken = taken_so_far input rest reader taking in
-    let after : unread final rest ≡ [] = unread-same rest reader final ends.1.0.same ∙ none in
+    let after : unread final rest ≡ [] = unread-same rest reader final ends.1.0.waiting ∙ none in
     takes Line input (unread final rest) units reader final taken (last_line input reader taken (taking.left ∙ none) ends.0 ∙ sym (ap (λ (l : List ℕ). take reader.taken input ∷ lines_of l) after)) same ends.1
 takes_last Long input rest units reader final taking none same more ends =
     let taken = taken_so_far input rest reader taking in
-    let after : unread final rest ≡ [] = unread-same rest reader final ends.1.0.same ∙ none in
+    let after : unread final rest ≡ [] = unread-same rest reader final ends.1.0.waiting ∙ none in
     takes Long input (unread final rest) units reader final taken (last_line input reader taken (taking.left ∙ none) ends.0 ∙ sym (ap (λ (l : List ℕ). take reader.taken input ∷ lines_of l) after)) same ends.1
 takes_last End input rest units reader final taking none same more ends =
     let nothing : input ≡ [] = sym (ap (λ (n : ℕ). drop n input) ends.0) ∙ taking.left ∙ none in
-    (nothing, unread-same rest reader final ends.1 ∙ none, ends.2 ∙ same, omega (arith, same, more))
+    (nothing, unread-same rest reader final ends.1.waiting ∙ none, ends.2 ∙ same, omega (arith, same, more))
 takes_last Spent input rest units reader final taking none same more ends = exhausts input units reader (taken_so_far input rest reader taking) same ends.1.0
 
 -- what the end of a line says of the input, of which the rest is still unread
 pub takes_ended : (what : Taken) (input rest : List ℕ) (units : ℕ) (reader final : LineReader) → IsTaken input reader → lines_of input ≡ take reader.taken input ∷ lines_of (unread reader rest) → reader.units ≡ units → EndsLine what reader final → Takes what input (unread final rest) units final
 takes_ended Line input rest units reader final taken first same ends =
-    takes Line input (unread final rest) units reader final taken (first ∙ sym (ap (λ (l : List ℕ). take reader.taken input ∷ lines_of l) (unread-same rest reader final ends.0.same))) same ends
+    takes Line input (unread final rest) units reader final taken (first ∙ sym (ap (λ (l : List ℕ). take reader.taken input ∷ lines_of l) (unread-same rest reader final ends.0.waiting))) same ends
 takes_ended Long input rest units reader final taken first same ends =
-    takes Long input (unread final rest) units reader final taken (first ∙ sym (ap (λ (l : List ℕ). take reader.taken input ∷ lines_of l) (unread-same rest reader final ends.0.same))) same ends
+    takes Long input (unread final rest) units reader final taken (first ∙ sym (ap (λ (l : List ℕ). take reader.taken input ∷ lines_of l) (unread-same rest reader final ends.0.waiting))) same ends
 takes_ended End input rest units reader final taken first same ends = absurd ends
 takes_ended Spent input rest units reader final taken first same ends = exhausts input units reader taken same ends.0

@@ -1,4 +1,11 @@
-pub mod Built
 pub mod Damages
 pub mod FileNames
 pub mod LineReader
+pub mod Pieces
+pub mod Pushing
+pub mod Reading
+pub mod Refusals
+pub mod Rows
+pub mod Spans
+pub mod Tokens
+pub mod Words

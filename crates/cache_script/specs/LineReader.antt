@@ -1,6 +1,7 @@
 -- What a reader of lines stands for.
 use Rattle.std.specs.Prelude.{◌<◌, ◌≡◌, ℕ, ◌+◌, ◌-◌, ◌^◌, ◌≤◌, Bool, true, false, List, [], ◌∷◌, ◌++◌, length, take, drop, Result, IfOk, OnErr, OnOk, IsErrOf}
-use Rattle.cache_model.specs.Lines.{Lacks, lines_of, units_of_length}
+use Rattle.cache_model.specs.Lines.{Lacks, lines_of, units_of_length, content_of, content_meaning, meaning_of, refuses}
+use Rattle.cache_model.specs.Replies.{long}
 use Rattle.cache_disk.specs.declared.source.SourceFault.{SourceFault}
 use Rattle.cache_disk.specs.State.{Rose}
 use Rattle.cache_script.specs.declared.line_reader.LineReader.{LineReader}
@@ -17,7 +18,7 @@ pending reader = take (reader.end - reader.at) (drop reader.at reader.buffer.ite
 abbrev pub unread : LineReader → List ℕ → List ℕ
 unread reader rest = pending reader ++ rest
 
--- the line that was taken last, or a part of it where it is too long to be kept
+-- the line that was taken last, without its end
 abbrev pub line_taken : LineReader → List ℕ
 line_taken reader = reader.line.items
 
@@ -54,7 +55,7 @@ pub record Keeps (count : ℕ) (old new : LineReader) : Type 0 where
   pub later : new.taken ≡ old.taken + count
   pub left : pending new ≡ drop count (pending old)
   pub more : new.at + length (pending new) ≡ new.end
-  pub line : new.taken ≤ 1048576 → new.line.items ≡ old.line.items ++ take count (pending old)
+  pub line : new.taken ≤ 1048577 → new.line.items ≡ old.line.items ++ take count (pending old)
 
 -- A piece of a line was taken from what was pending: up to a line feed, which is taken too, or all of it.
 pub record TakesPiece (ended : Bool) (old new : LineReader) : Type 0 where
@@ -64,7 +65,7 @@ pub record TakesPiece (ended : Bool) (old new : LineReader) : Type 0 where
   pub lacks : Lacks 10 (take count (pending old))
   pub met : ended ≡ true → drop count (pending old) ≡ 10 ∷ pending new
   pub all : ended ≡ false → (count ≡ length (pending old)) × (new.at ≡ new.end)
-  pub line : new.taken ≤ 1048576 → new.line.items ≡ old.line.items ++ take count (pending old)
+  pub line : new.taken ≤ 1048577 → new.line.items ≡ old.line.items ++ take count (pending old)
 
 -- A line was taken from some input, with its units.
 pub record TakesLine (line : List ℕ) (old new : List ℕ) (units_old units_new : ℕ) : Type 0 where
@@ -86,17 +87,23 @@ pub record SameBuffer (old new : LineReader) : Type 0 where
   pub line : new.line.items ≡ old.line.items
   pub taken : new.taken ≡ old.taken
 
--- A line was counted.
+-- A line was counted, and nothing was taken from the buffer.
 pub record CountsLine (old new : LineReader) : Type 0 where
-  pub same : SameBuffer old new
+  pub waiting : pending new ≡ pending old
   pub units : new.units ≡ old.units + (1 + units_of_length old.taken)
   pub within : new.units ≤ 2 ^ 32
 
--- The end of a line was met: it is counted, and kept where it isn't too long, unless as many units were taken as one
--- run takes.
+-- A line that was kept isn't long, and is kept without its end.
+pub record KeepsContent (old new : LineReader) : Type 0 where
+  pub kept : old.taken ≤ 1048577
+  pub content : new.line.items ≡ content_of old.line.items
+  pub short : length new.line.items ≤ 1048576
+
+-- The end of a line was met: it is counted, and its content is kept where it isn't long, unless as many units were
+-- taken as one run takes.
 abbrev pub EndsLine : Taken → LineReader → LineReader → Type 0
-EndsLine Line old new = CountsLine old new × (old.taken ≤ 1048576)
-EndsLine Long old new = CountsLine old new × (1048576 < old.taken)
+EndsLine Line old new = CountsLine old new × KeepsContent old new
+EndsLine Long old new = CountsLine old new × (old.taken ≤ 1048577 → 1048576 < length (content_of old.line.items))
 EndsLine End old new = ⊥
 EndsLine Spent old new = IsSpent old × SameBuffer old new × (new.units ≡ old.units)
 
@@ -107,11 +114,22 @@ EndsInput Long old new = (0 < old.taken) × EndsLine Long old new
 EndsInput End old new = (old.taken ≡ 0) × SameBuffer old new × (new.units ≡ old.units)
 EndsInput Spent old new = (0 < old.taken) × EndsLine Spent old new
 
+-- A line isn't long, and this is its content, which says what it means.
+pub record HasContent (line text : List ℕ) : Type 0 where
+  pub content : content_of line ≡ text
+  pub short : length text ≤ 1048576
+  pub means : meaning_of line ≡ content_meaning text
+
+-- A line is long, and refused as such.
+pub record IsLong (line : List ℕ) : Type 0 where
+  pub above : 1048576 < length (content_of line)
+  pub means : meaning_of line ≡ refuses long
+
 -- What was taken from the input that was unread: its first line, or nothing at its end, or no line, where as many
 -- units were taken as one run takes.
 abbrev pub Takes : Taken → List ℕ → List ℕ → ℕ → LineReader → Type 0
-Takes Line old new units reader = TakesLine (line_taken reader) old new units (units_taken reader) × (length (line_taken reader) ≤ 1048576)
-Takes Long old new units reader = (line : List ℕ) × TakesLine line old new units (units_taken reader) × (1048576 < length line)
+Takes Line old new units reader = (line : List ℕ) × TakesLine line old new units (units_taken reader) × HasContent line (line_taken reader)
+Takes Long old new units reader = (line : List ℕ) × TakesLine line old new units (units_taken reader) × IsLong line
 Takes End old new units reader = (old ≡ []) × (new ≡ []) × (units_taken reader ≡ units) × (units < 2 ^ 32)
 Takes Spent old new units reader = Exhausts old units
 

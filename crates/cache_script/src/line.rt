@@ -1,160 +1,231 @@
 // One line of a script, as a command.
-ghost use Rattle.std.specs.Prelude.{◌≡◌, ◌∷◌, [], Some, None, IfOk, IsErrOf, IsSome, MatchOption};
-ghost use Rattle.std.specs.List.{list_all};
-ghost use Rattle.cache_model.specs.Lines.{Lacks, IsFirst, words_of, is_token, is_plain_byte, command_of, command_of_words, put_of, get_of};
-ghost use Rattle.cache_script.specs.Built.{IsBuilt};
-ghost use Rattle.cache_script.specs.declared.line.LineFault.TheVariants.{Syntax, Memory};
+ghost use Rattle.std.specs.Prelude.{◌≡◌, option_map, IfOk, IfErr, List, ℕ, Some};
+ghost use Rattle.cache_model.specs.Commands.{IsCommand};
+ghost use Rattle.cache_model.specs.Lines.{content_meaning, within_limits, ttl_refusal, takes_nothing, takes_moment, takes_key, takes_key_value, takes_entry, takes_exchange};
+ghost use Rattle.cache_model.specs.Plain.{Plain};
+ghost use Rattle.cache_model.specs.Replies.{refused};
+ghost use Rattle.cache_model.specs.Transcript.{Answers};
+ghost use Rattle.cache_model.specs.declared.commands.Command.TheVariants.{At, ReplaceIf, RemoveIf};
+ghost use Rattle.cache_script.specs.Reading.{Reads};
+ghost use Rattle.cache_script.specs.Refusals.{refusal_of};
+ghost use Rattle.cache_script.specs.Rows.{put_command, key_command, sole_command, row_arguments};
 
-use cache_model::{Command, Key, Lifespan, Value};
+use crate::LineFault;
+use crate::numbers::{number_of, ttl_of};
+use crate::rows::{KeyKind, PutKind, Row, SoleKind, row_of};
+use crate::tokens::Token;
+use crate::words::Words;
+use cache_model::{Command, Lifespan};
 use std::alloc::Global;
 
-/// The greatest length of a key's and of a value's token, in bytes.
-const KEY_TOKEN: usize = 1024;
+/// A moment and a number of units are below this.
+const UNITS_END: u64 = 1 << 61;
 
-const VALUE_TOKEN: usize = 65536;
-
-/// Why a line is no command.
-#[derive(Clone, Copy, Debug, PartialEq, Eq)]
-pub enum LineFault {
-    /// It isn't in the grammar of lines.
-    Syntax,
-    /// Memory was wanted for its key or value.
-    Memory,
-}
-
-/// Where the first such byte stands.
-pub fn first_of(bytes: &[u8], separator: u8) -> Option<usize>
-    ensures { MatchOption result (Lacks separator bytes.now) (λ at. IsFirst separator bytes.now at) }
-{
-    for (at, byte) in bytes.iter().enumerate() {
-        if *byte == separator {
-            return Some(at);
-        }
-    }
-    None
-}
-
-// The bytes up to the first space, and what stands behind it, where there is one.
-fn first_word(line: &[u8]) -> (&[u8], Option<&[u8]>)
-    ensures { MatchOption result.1 (words_of line.now ≡ result.0.now ∷ []) (λ rest. words_of line.now ≡ result.0.now ∷ words_of rest.now) }
-{
-    match first_of(line, b' ') {
-        Some(end) => (&line[..end], Some(&line[end + 1..])),
-        None => (line, None),
-    }
-}
-
-/// Whether a byte stands for itself.
-pub fn is_plain_byte(byte: u8) -> bool
-    ensures { result ≡ is_plain_byte byte }
-{
-    33 <= byte && byte <= 126 && byte != b'%'
-}
-
-// Whether each byte stands for itself.
-fn are_plain(word: &[u8]) -> bool
-    ensures { result ≡ list_all is_plain_byte word.now }
-{
-    word.iter().all(|byte| is_plain_byte(*byte))
-}
-
-// Whether a word stands for one to so many bytes.
-fn is_token(word: &[u8], most: usize) -> bool
-    ensures { result ≡ is_token most word.now }
-{
-    1 <= word.len() && word.len() <= most && are_plain(word)
-}
-
-/// The command of a line without its line feed.
+/// The command of a line without its end, which isn't long.
 pub fn read_line(alloc: Global, line: &[u8]) -> Result<Command, LineFault>
-    ensures command { IfOk result (λ command. command_of line.now ≡ Some command) }
-    ensures built { IfOk result IsBuilt }
-    ensures syntax { IsErrOf result Syntax → command_of line.now ≡ None }
-    ensures memory { IsErrOf result Memory → IsSome (command_of line.now) }
+    ensures read { Reads (content_meaning line.now) result }
+    ensures limits { IfOk result IsCommand }
+    ensures refused { IfErr result (λ fault. (publish : List ℕ) (plain : Plain) → Answers publish plain (content_meaning line.now) (refused (refusal_of fault))) }
 {
-    let (name, arguments) = first_word(line);
-    match arguments {
-        Some(arguments) => read_command(alloc, name, arguments),
+    let mut words = Words::of(line);
+    let Some(name) = words.next() else {
+        return Err(LineFault::Syntax);
+    };
+    match row_of(name) {
+        Some(row) => read_row(alloc, row, &mut words),
         None => Err(LineFault::Syntax),
     }
 }
 
-// The command of a line with this first word, and something behind it.
-fn read_command(alloc: Global, name: &[u8], arguments: &[u8]) -> Result<Command, LineFault>
-    ensures command { IfOk result (λ command. command_of_words (name.now ∷ words_of arguments.now) ≡ Some command) }
-    ensures built { IfOk result IsBuilt }
-    ensures syntax { IsErrOf result Syntax → command_of_words (name.now ∷ words_of arguments.now) ≡ None }
-    ensures memory { IsErrOf result Memory → IsSome (command_of_words (name.now ∷ words_of arguments.now)) }
+// The command of a row.
+fn read_row(alloc: Global, row: Row, words: &mut Words<'_>) -> Result<Command, LineFault>
+    ensures read { Reads (within_limits (row_arguments row words.old)) result }
+    ensures limits { IfOk result IsCommand }
 {
-    if name == b"put".as_slice() {
-        return read_put(alloc, arguments);
-    }
-    if name == b"get".as_slice() {
-        return read_get(alloc, arguments);
-    }
-    Err(LineFault::Syntax)
-}
-
-// The read of a key that stands behind the word `get`.
-fn read_get(alloc: Global, arguments: &[u8]) -> Result<Command, LineFault>
-    ensures command { IfOk result (λ command. get_of (words_of arguments.now) ≡ Some command) }
-    ensures built { IfOk result IsBuilt }
-    ensures syntax { IsErrOf result Syntax → get_of (words_of arguments.now) ≡ None }
-    ensures memory { IsErrOf result Memory → IsSome (get_of (words_of arguments.now)) }
-{
-    let (key, more) = first_word(arguments);
-    match more {
-        Some(_) => Err(LineFault::Syntax),
-        None => get_of(alloc, key),
+    match row {
+        Row::Moment => read_moment(words),
+        Row::Put(kind) => read_put(alloc, kind, words),
+        Row::Exchange => read_exchange(alloc, words),
+        Row::Key(kind) => read_key(alloc, kind, words),
+        Row::RemoveIf => read_remove_if(alloc, words),
+        Row::Sole(kind) => read_sole(kind, words),
     }
 }
 
-// The read of a key, where it is a token.
-fn get_of(alloc: Global, key: &[u8]) -> Result<Command, LineFault>
-    ensures command { IfOk result (λ command. get_of (key.now ∷ []) ≡ Some command) }
-    ensures built { IfOk result IsBuilt }
-    ensures syntax { IsErrOf result Syntax → get_of (key.now ∷ []) ≡ None }
-    ensures memory { IsErrOf result Memory → IsSome (get_of (key.now ∷ [])) }
+// A command that stands alone.
+fn read_sole(kind: SoleKind, words: &Words<'_>) -> Result<Command, LineFault>
+    ensures read { Reads (within_limits (takes_nothing (sole_command kind) words.now)) result }
+    ensures limits { IfOk result IsCommand }
 {
-    if !is_token(key, KEY_TOKEN) {
+    if words.is_done() {
+        Ok(kind.command())
+    } else {
+        Err(LineFault::Syntax)
+    }
+}
+
+// The command that sets the moment.
+fn read_moment(words: &mut Words<'_>) -> Result<Command, LineFault>
+    ensures read { Reads (within_limits (takes_moment At words.old)) result }
+    ensures limits { IfOk result IsCommand }
+{
+    let Some(word) = words.next() else {
+        return Err(LineFault::Syntax);
+    };
+    let Some(moment) = number_of(word) else {
+        return Err(LineFault::Syntax);
+    };
+    if moment < UNITS_END && words.is_done() {
+        Ok(Command::At(moment))
+    } else {
+        Err(LineFault::Syntax)
+    }
+}
+
+// A command that has a key alone.
+fn read_key(alloc: Global, kind: KeyKind, words: &mut Words<'_>) -> Result<Command, LineFault>
+    ensures read { Reads (within_limits (takes_key (key_command kind) words.old)) result }
+    ensures limits { IfOk result IsCommand }
+{
+    let Some(key) = words.token() else {
+        return Err(LineFault::Syntax);
+    };
+    if !words.is_done() {
         return Err(LineFault::Syntax);
     }
-    match Key::of(alloc, key) {
-        Ok(key) => Ok(Command::Get(key)),
+    make_key(alloc, kind, &key)
+}
+
+// The command of a key, where it is within its limits.
+fn make_key(alloc: Global, kind: KeyKind, key: &Token<'_>) -> Result<Command, LineFault>
+    ensures read { Reads (within_limits (Some (key_command kind key.now))) result }
+    ensures limits { IfOk result IsCommand }
+{
+    if let Some(fault) = key.key_fault() {
+        return Err(fault);
+    }
+    match key.key(alloc) {
+        Ok(key) => Ok(kind.command(key)),
         Err(_) => Err(LineFault::Memory),
     }
 }
 
-// The put of a key and a value that stand behind the word `put`.
-fn read_put(alloc: Global, arguments: &[u8]) -> Result<Command, LineFault>
-    ensures built { IfOk result IsBuilt }
-    ensures command { IfOk result (λ command. put_of (words_of arguments.now) ≡ Some command) }
-    ensures syntax { IsErrOf result Syntax → put_of (words_of arguments.now) ≡ None }
-    ensures memory { IsErrOf result Memory → IsSome (put_of (words_of arguments.now)) }
+// The removal of a key where it has a value.
+fn read_remove_if(alloc: Global, words: &mut Words<'_>) -> Result<Command, LineFault>
+    ensures read { Reads (within_limits (takes_key_value RemoveIf words.old)) result }
+    ensures limits { IfOk result IsCommand }
 {
-    let (key, rest) = first_word(arguments);
-    let Some(rest) = rest else {
+    let Some(key) = words.token() else {
         return Err(LineFault::Syntax);
     };
-    let (value, more) = first_word(rest);
-    match more {
-        Some(_) => Err(LineFault::Syntax),
-        None => put_of(alloc, key, value),
+    let Some(old) = words.token() else {
+        return Err(LineFault::Syntax);
+    };
+    if !words.is_done() {
+        return Err(LineFault::Syntax);
+    }
+    make_remove_if(alloc, &key, &old)
+}
+
+// The removal of a key where it has a value, where both are within their limits.
+fn make_remove_if(alloc: Global, key: &Token<'_>, old: &Token<'_>) -> Result<Command, LineFault>
+    ensures read { Reads (within_limits (Some (RemoveIf key.now old.now))) result }
+    ensures limits { IfOk result IsCommand }
+{
+    if let Some(fault) = key.key_fault().or(old.value_fault()) {
+        return Err(fault);
+    }
+    match (key.key(alloc), old.value(alloc)) {
+        (Ok(key), Ok(old)) => Ok(Command::RemoveIf(key, old)),
+        _ => Err(LineFault::Memory),
     }
 }
 
-// The put of a key and a value, where both are tokens.
-fn put_of(alloc: Global, key: &[u8], value: &[u8]) -> Result<Command, LineFault>
-    ensures built { IfOk result IsBuilt }
-    ensures command { IfOk result (λ command. put_of (key.now ∷ value.now ∷ []) ≡ Some command) }
-    ensures syntax { IsErrOf result Syntax → put_of (key.now ∷ value.now ∷ []) ≡ None }
-    ensures memory { IsErrOf result Memory → IsSome (put_of (key.now ∷ value.now ∷ [])) }
+// A command that puts a value under a key.
+fn read_put(alloc: Global, kind: PutKind, words: &mut Words<'_>) -> Result<Command, LineFault>
+    ensures read { Reads (within_limits (takes_entry (put_command kind) words.old)) result }
+    ensures limits { IfOk result IsCommand }
 {
-    if !is_token(key, KEY_TOKEN) || !is_token(value, VALUE_TOKEN) {
+    let Some(key) = words.token() else {
         return Err(LineFault::Syntax);
+    };
+    let Some(value) = words.token() else {
+        return Err(LineFault::Syntax);
+    };
+    match ttl_of(words) {
+        Some(lifespan) => make_put(alloc, kind, &key, &value, lifespan),
+        None => Err(LineFault::Syntax),
     }
-    match (Key::of(alloc, key), Value::of(alloc, value)) {
-        (Ok(key), Ok(value)) => Ok(Command::Put(key, value, Lifespan::Endless)),
+}
+
+// The put of a value under a key, where all is within its limits.
+fn make_put(
+    alloc: Global,
+    kind: PutKind,
+    key: &Token<'_>,
+    value: &Token<'_>,
+    lifespan: Lifespan,
+) -> Result<Command, LineFault>
+    ensures read { Reads (within_limits (Some (put_command kind key.now value.now lifespan))) result }
+    ensures limits { IfOk result IsCommand }
+{
+    let fault = value.value_fault().or(ttl_fault(lifespan));
+    if let Some(fault) = key.key_fault().or(fault) {
+        return Err(fault);
+    }
+    match (key.key(alloc), value.value(alloc)) {
+        (Ok(key), Ok(value)) => Ok(kind.command(key, value, lifespan)),
         _ => Err(LineFault::Memory),
+    }
+}
+
+// The command that puts a new value under a key where it has an old one.
+fn read_exchange(alloc: Global, words: &mut Words<'_>) -> Result<Command, LineFault>
+    ensures read { Reads (within_limits (takes_exchange ReplaceIf words.old)) result }
+    ensures limits { IfOk result IsCommand }
+{
+    let Some(key) = words.token() else {
+        return Err(LineFault::Syntax);
+    };
+    let Some(old) = words.token() else {
+        return Err(LineFault::Syntax);
+    };
+    let Some(value) = words.token() else {
+        return Err(LineFault::Syntax);
+    };
+    match ttl_of(words) {
+        Some(lifespan) => make_exchange(alloc, &key, &old, &value, lifespan),
+        None => Err(LineFault::Syntax),
+    }
+}
+
+// The put of a new value under a key where it has an old one, where all is within its limits.
+fn make_exchange(
+    alloc: Global,
+    key: &Token<'_>,
+    old: &Token<'_>,
+    value: &Token<'_>,
+    lifespan: Lifespan,
+) -> Result<Command, LineFault>
+    ensures read { Reads (within_limits (Some (ReplaceIf key.now old.now value.now lifespan))) result }
+    ensures limits { IfOk result IsCommand }
+{
+    let fault = value.value_fault().or(ttl_fault(lifespan));
+    if let Some(fault) = key.key_fault().or(old.value_fault().or(fault)) {
+        return Err(fault);
+    }
+    match (key.key(alloc), old.value(alloc), value.value(alloc)) {
+        (Ok(key), Ok(old), Ok(value)) => Ok(Command::ReplaceIf(key, old, value, lifespan)),
+        _ => Err(LineFault::Memory),
+    }
+}
+
+// Why a lifespan is refused, where it is.
+fn ttl_fault(lifespan: Lifespan) -> Option<LineFault>
+    ensures { option_map refusal_of result ≡ ttl_refusal lifespan }
+{
+    match lifespan {
+        Lifespan::Of(units) if units >= UNITS_END => Some(LineFault::Ttl),
+        _ => None,
     }
 }

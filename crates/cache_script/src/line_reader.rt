@@ -1,14 +1,18 @@
 // A script, line by line, in whatever pieces its source hands it in.
 ghost use Rattle.std.specs.Prelude.{◌≡◌, ◌+◌, ◌++◌, ◌<◌, ◌≤◌, ◌^◌, [], length, true, false, IfOk, OnOk, IsTrue, IsErrOf};
+ghost use Rattle.cache_model.specs.Lines.{content_of};
 ghost use Rattle.cache_disk.specs.Source.{SourceCause};
 ghost use Rattle.cache_script.specs.declared.line_reader.ReadFault.TheVariants.{Failed};
 
-use crate::line::first_of;
+use crate::words::first_of;
 use cache_disk::{Source, SourceFault};
 use std::alloc::Global;
 
-/// The most bytes of a line that are kept, its line feed aside.
+/// The most bytes of a line, its end aside.
 const LINE_LIMIT: u64 = 1_048_576;
+
+/// The most bytes of a line that are kept: one more, which may be a carriage return at its end.
+const KEPT_LIMIT: u64 = LINE_LIMIT + 1;
 
 /// A line takes a unit of input for each so many bytes, and one for its end.
 const UNIT: u64 = 1_048_577;
@@ -24,7 +28,7 @@ const BUFFER: usize = 65536;
 pub enum Taken {
     /// A line, which `line` gives.
     Line,
-    /// A line that is too long to be kept.
+    /// A line that is too long.
     Long,
     /// Nothing: the input is at its end.
     End,
@@ -46,7 +50,7 @@ pub struct LineReader {
     // What of the buffer isn't taken yet.
     at: usize,
     end: usize,
-    // The line that is being taken, as far as it isn't too long, and how many bytes it has so far.
+    // The line that is being taken, as far as it is kept, and how many bytes it has so far.
     line: Vec<u8>,
     taken: u64,
     // How many units the lines took that were taken before.
@@ -57,15 +61,24 @@ pub struct LineReader {
     ghost whole_run: { units ≤ 4294967296 },
 }
 
-// Adds a piece to a line, which then has so many bytes, unless it is too long to be kept.
+// Adds a piece to a line, which then has so many bytes, unless these are too many to be kept.
 fn extend_line(line: &mut Vec<u8>, taken: u64, piece: &[u8]) -> Result<(), ReadFault>
-    ensures line { OnOk result (taken ≤ 1048576 → line.new.items ≡ line.old.items ++ piece.now) }
+    ensures line { OnOk result (taken ≤ 1048577 → line.new.items ≡ line.old.items ++ piece.now) }
     ensures memory { IsErrOf result Failed → ⊥ }
 {
-    if taken > LINE_LIMIT {
+    if taken > KEPT_LIMIT {
         return Ok(());
     }
     line.extend_from_slice(piece).map_err(|_| ReadFault::Memory)
+}
+
+// Takes off the carriage return at the end of a line, where it has one.
+fn cut_return(line: &mut Vec<u8>)
+    ensures { line.new.items ≡ content_of line.old.items }
+{
+    if line.ends_with(b"\r") {
+        line.pop();
+    }
 }
 
 impl LineReader {
@@ -88,7 +101,7 @@ impl LineReader {
         })
     }
 
-    /// The line that was taken last.
+    /// The line that was taken last, without its end.
     pub fn line(&self) -> &[u8]
         ensures { result.now ≡ line_taken self.now }
     {
@@ -178,7 +191,11 @@ impl LineReader {
             return Taken::Spent;
         }
         self.units += 1 + self.taken / UNIT;
-        if self.taken <= LINE_LIMIT {
+        if self.taken > KEPT_LIMIT {
+            return Taken::Long;
+        }
+        cut_return(&mut self.line);
+        if self.line.len() as u64 <= LINE_LIMIT {
             Taken::Line
         } else {
             Taken::Long
@@ -196,7 +213,8 @@ impl LineReader {
         }
     }
 
-    /// Takes the next line. Its line feed, which the last one may lack, isn't part of it.
+    /// Takes the next line. Its line feed, which the last one may lack, and one carriage return in front of that aren't
+    /// part of it. A line that is too long is passed over up to its end, in memory for the longest line.
     pub fn next<S: Source>(&mut self, source: &mut S) -> Result<Taken, ReadFault>
         ensures told { IsTrue S.tells → IfOk result (λ taken. Takes taken (unread self.old (S.rest source.old)) (unread self.new (S.rest source.new)) (units_taken self.old) self.new) }
         ensures units { IfOk result (λ taken. Advances taken (units_taken self.old) (units_taken self.new)) }
