@@ -1,131 +1,124 @@
--- How a run ends: what it said and left by then, by its status.
-use Rattle.std.specs.Prelude.{◌≡◌, ◌⊎◌, ℕ, ◌+◌, ◌-◌, ◌^◌, ◌<◌, ◌≤◌, true, false, List, [], ◌∷◌, ◌++◌, length, Some, None}
-use Rattle.cache_model.specs.declared.commands.Command.TheVariants.{Put}
-use Rattle.cache_model.specs.declared.entries.Lifespan.TheVariants.{Endless}
+-- How a run ends: what it said by then, by its status.
+use Rattle.std.specs.Prelude.{◌≡◌, ◌⊎◌, ℕ, ◌+◌, ◌-◌, ◌^◌, ◌<◌, ◌≤◌, true, false, List, ◌++◌, length, None, sum_by}
+use Rattle.cache_model.specs.declared.entries.Change.{Change}
 use Rattle.cache_model.specs.declared.faults.Damage.{Damage}
 use Rattle.cache_model.specs.declared.replies.Status.{Status}
 use Rattle.cache_model.specs.declared.replies.Status.TheVariants as status
-use Rattle.cache_model.specs.Files.{Image, file_in}
-use Rattle.cache_model.specs.DataFiles.{Frame, file_spelling, AreFrames}
-use Rattle.cache_model.specs.Lines.{Lacks, lines_of, command_of, units_of, units_of_length}
-use Rattle.cache_model.specs.Images.{log_name}
-use Rattle.cache_disk.specs.State.{HostState, SameBut, SameFiles}
+use Rattle.cache_model.specs.Lines.{Lacks, lines_of, units_of, units_of_length}
+use Rattle.cache_disk.specs.State.{HostState, SameFiles}
 use Rattle.cache_disk.specs.Calls.{and_then_said}
-use Rattle.cache_session.specs.Opening.{IsForeign, IsFirstDamageOf}
+use Rattle.store_trait.specs.Meaning.{Numbers}
 use Rattle.cache_script.specs.Damages.{damage_line}
-use Rattle.cache_cli.specs.Talk.{Talk, IsTalk, text_of, frames_in}
+use Rattle.soft_index.specs.Opening.{IsFirstDamageOf}
+use Rattle.cache_session.specs.Turns.{files_by}
+use Rattle.cache_cli.specs.Foreign.{IsForeign}
+use Rattle.cache_cli.specs.Fitting.{IsLog}
+use Rattle.cache_cli.specs.Talk.{Course, Talk, IsTalk, text_of, done_in, is_over, next_command}
 
--- Some frames whose first has this number, in the file with that number: none is numbered beyond the last sequence
--- number, none is in a file beyond the last one, and none goes beyond the greatest size of a file.
-pub record IsWithin (first number : ℕ) (frames : List Frame) : Type 0 where
-  pub sequence : first + length frames ≤ 2 ^ 62
-  pub file : number ≡ 2 ^ 32 - 1 → frames ≡ []
-  pub size : length (file_spelling frames) < 2 ^ 32
+-- where there are changes, their numbers and those of their files are within their ends
+abbrev pub IsWithin : Numbers → ℕ → Type 0
+IsWithin first count = 1 ≤ count → (first.sequence + count ≤ 2 ^ 62) × (first.file < 2 ^ 32 - 1)
 
--- What was said is a talk, whose puts are within their ends: these lines of the script are left.
-pub record Says (from to : HostState) (given : ℕ) (script left : List (List ℕ)) (talk : Talk) : Type 0 where
-  pub is_talk : IsTalk talk from.files given script left
-  pub within : IsWithin talk.first talk.number (frames_in talk)
-  pub said : to.said to.turn ≡ and_then_said (from.said from.turn) (text_of talk)
+-- What was said is a talk, whose changes have their numbers: these lines of the script are left.
+pub record Says (course : Course) (to : HostState) (left : List (List ℕ)) (talk : Talk) : Type 0 where
+  pub is_talk : IsTalk talk course left
+  pub said : to.said to.turn ≡ and_then_said course.said (text_of talk)
+  pub log : List Change
+  pub is_log : IsLog talk.opening (done_in talk) log
+  pub within : IsWithin talk.first (length log)
 
--- the data file with this number is these frames, each within its limits, or isn't there where there is none
-abbrev pub HoldsFrames : Image → ℕ → List Frame → Type 0
-HoldsFrames files number frames =
-    ((file_in files (log_name number) ≡ Some (file_spelling frames)) × AreFrames frames)
-    ⊎ ((file_in files (log_name number) ≡ None) × (frames ≡ []))
-
--- The talk's file has a frame for each of its puts and no other one, and other files are as they were.
-pub record Leaves (from to : HostState) (talk : Talk) : Type 0 where
-  pub file : HoldsFrames to.files talk.number (frames_in talk)
-  pub others : SameBut (log_name talk.number) from.files to.files
-
--- A run answered each line of the script and its end.
-pub record EndsWhole (from to : HostState) (given : ℕ) (script : List (List ℕ)) : Type 0 where
+-- A run answered each line of the script and its end, or each line up to one that ends the talk. No more units were taken
+-- than one run takes, and fewer where the end was met.
+pub record EndsWhole (course : Course) (to : HostState) : Type 0 where
   pub talk : Talk
-  pub says : Says from to given script [] talk
-  pub ended : talk.ended ≡ true
-  pub leaves : Leaves from to talk
-  pub units : units_of script < 2 ^ 32
+  pub left : List (List ℕ)
+  pub says : Says course to left talk
+  pub over : is_over talk ≡ true
+  pub units : units_of talk.answered ≤ 2 ^ 32
+  pub fewer : talk.ended ≡ true → units_of talk.answered < 2 ^ 32
 
 -- A run answered the first lines of the script.
-pub record EndsEarly (from to : HostState) (given : ℕ) (script : List (List ℕ)) : Type 0 where
+pub record EndsEarly (course : Course) (to : HostState) : Type 0 where
   pub talk : Talk
   pub left : List (List ℕ)
-  pub says : Says from to given script left talk
-  pub going : talk.ended ≡ false
+  pub says : Says course to left talk
+  pub going : is_over talk ≡ false
 
--- A run answered the first lines of the script, and left a frame for each of their puts.
-pub record EndsUnread (from to : HostState) (given : ℕ) (script : List (List ℕ)) : Type 0 where
+-- What was said by a turn is a talk, and from then on nothing is told of what was said.
+pub record EndsUnsaid (course : Course) (to : HostState) : Type 0 where
+  pub turn : ℕ
   pub talk : Talk
   pub left : List (List ℕ)
-  pub says : Says from to given script left talk
-  pub going : talk.ended ≡ false
-  pub leaves : Leaves from to talk
+  pub is_talk : IsTalk talk course left
+  pub said : to.said turn ≡ and_then_said course.said (text_of talk)
+  pub before : turn < to.turn
+  pub lost : (t : ℕ) → turn < t → t ≤ to.turn → to.said t ≡ None
 
--- A number is spent for a put of so many bytes of key and value: the next sequence number is at its end, or a file has
--- to be made whose number is, or the talk's file has no room for the frame.
-abbrev pub IsSpent : Talk → ℕ → Type 0
-IsSpent talk bytes =
-    (talk.first + length (frames_in talk) ≡ 2 ^ 62)
-    ⊎ (talk.number ≡ 2 ^ 32 - 1)
-    ⊎ (2 ^ 32 - 1 < length (file_spelling (frames_in talk)) + (23 + bytes) + 10)
-
--- A run ended at a put for which a number is spent.
-pub record EndsSpent (from to : HostState) (given : ℕ) (script : List (List ℕ)) : Type 0 where
+-- A run ended at a command for a change of which a number is at its end: the next sequence number, or that of a file that
+-- has to be made. The numbers at the opening and the changes of the commands up to this one add up to no less; a turn of a
+-- compaction counts as a change for the file that it may make.
+pub record EndsSpent (course : Course) (to : HostState) : Type 0 where
   pub talk : Talk
-  pub line : List ℕ
   pub left : List (List ℕ)
-  pub key : List ℕ
-  pub value : List ℕ
-  pub says : Says from to given script (line ∷ left) talk
-  pub going : talk.ended ≡ false
-  pub leaves : Leaves from to talk
-  pub puts : command_of line ≡ Some (Put key value Endless)
-  pub spent : IsSpent talk (length key + length value)
+  pub says : Says course to left talk
+  pub going : is_over talk ≡ false
+  pub log : List Change
+  pub is_log : IsLog talk.opening (done_in talk ++ next_command left) log
+  pub spent : (2 ^ 62 ≤ talk.first.sequence + length log) ⊎ (2 ^ 32 - 1 ≤ talk.first.file + length log + sum_by files_by (done_in talk ++ next_command left))
 
 -- A run took as many units of its script as it may, with a part of the line in hand.
-pub record EndsTaken (from to : HostState) (given : ℕ) (script : List (List ℕ)) : Type 0 where
+pub record EndsTaken (course : Course) (to : HostState) : Type 0 where
   pub talk : Talk
   pub part : List ℕ
   pub rest : List ℕ
-  pub says : Says from to given script (lines_of (part ++ rest)) talk
-  pub going : talk.ended ≡ false
-  pub leaves : Leaves from to talk
+  pub says : Says course to (lines_of (part ++ rest)) talk
+  pub going : is_over talk ≡ false
   pub lacks : Lacks 10 part
   pub units : 2 ^ 32 ≤ units_of talk.answered + units_of_length (length part)
 
 -- nothing was said
-abbrev pub IsSilent : HostState → HostState → Type 0
-IsSilent from to = to.said to.turn ≡ from.said from.turn
+abbrev pub IsSilent : Course → HostState → Type 0
+IsSilent course to = to.said to.turn ≡ course.said
 
--- nothing was said, and the files are as they were
-abbrev pub IsUnused : HostState → HostState → Type 0
-IsUnused from to = IsSilent from to × SameFiles from.files to.files
+-- nothing was said, or the first lines of the script were answered
+abbrev pub IsCutShort : Course → HostState → Type 0
+IsCutShort course to = IsSilent course to ⊎ EndsEarly course to
 
--- a run was cut short, before it began or behind the first lines of the script
-abbrev pub IsCutShort : HostState → HostState → ℕ → List (List ℕ) → Type 0
-IsCutShort from to given script = IsSilent from to ⊎ EndsEarly from to given script
+-- Nothing was said by a turn, and from then on nothing is told of what was said.
+pub record EndsUnopened (course : Course) (to : HostState) : Type 0 where
+  pub turn : ℕ
+  pub said : to.said turn ≡ course.said
+  pub before : turn < to.turn
+  pub lost : (t : ℕ) → turn < t → t ≤ to.turn → to.said t ≡ None
 
 -- A run said where the directory is damaged first, and nothing else. It changed no file.
-pub record EndsDamaged (from to : HostState) : Type 0 where
+pub record EndsDamaged (course : Course) (to : HostState) : Type 0 where
   pub damage : Damage
-  pub first : IsFirstDamageOf from.files damage
-  pub files : SameFiles from.files to.files
-  pub said : to.said to.turn ≡ and_then_said (from.said from.turn) (damage_line damage)
+  pub first : IsFirstDamageOf course.files damage
+  pub files : SameFiles course.files to.files
+  pub said : to.said to.turn ≡ and_then_said course.said (damage_line damage)
 
--- What a run with good words said and left, by its status. Of one whose saying failed nothing is known here.
-abbrev pub Ends : Status → HostState → HostState → ℕ → List (List ℕ) → Type 0
-Ends status.Done from to given script = EndsWhole from to given script
-Ends status.Usage from to given script = IsForeign from.files × IsUnused from to
-Ends status.Settings from to given script = ⊥
-Ends status.Damaged from to given script = EndsDamaged from to
-Ends status.DiskFailed from to given script = IsCutShort from to given script
-Ends status.ScriptFailed from to given script = EndsUnread from to given script
-Ends status.SayFailed from to given script = Unit {0}
-Ends status.NoMemory from to given script = IsCutShort from to given script
-Ends status.Spent from to given script = EndsSpent from to given script
-Ends status.LinesSpent from to given script = EndsTaken from to given script
+-- nothing was said, and the files are as they were
+abbrev pub IsUnused : Course → HostState → Type 0
+IsUnused course to = IsSilent course to × SameFiles course.files to.files
+
+-- What a run with good words said, by its status.
+abbrev pub Ends : Status → Course → HostState → Type 0
+Ends status.Done course to = EndsWhole course to
+Ends status.Usage course to = IsForeign course.files × IsUnused course to
+Ends status.Settings course to = ⊥
+Ends status.Damaged course to = EndsDamaged course to
+Ends status.DiskFailed course to = IsCutShort course to
+Ends status.ScriptFailed course to = EndsEarly course to
+Ends status.SayFailed course to = EndsUnopened course to ⊎ EndsUnsaid course to
+Ends status.NoMemory course to = IsCutShort course to
+Ends status.Spent course to = EndsSpent course to
+Ends status.LinesSpent course to = EndsTaken course to
 
 -- what a run ends with where the directory has other files than data files
 abbrev pub EndsForeign : Status → Type 0
 EndsForeign ended = (ended ≡ status.Usage) ⊎ ((ended ≡ status.DiskFailed) ⊎ (ended ≡ status.NoMemory))
+
+-- what a run ends with where a data file is damaged
+abbrev pub EndsRefused : Status → Type 0
+EndsRefused ended = (ended ≡ status.Damaged) ⊎ ((ended ≡ status.DiskFailed) ⊎ ((ended ≡ status.SayFailed) ⊎ (ended ≡ status.NoMemory)))

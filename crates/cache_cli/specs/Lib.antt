@@ -1,7 +1,13 @@
 pub mod Causes
 pub mod Composing
 pub mod Ends
+pub mod Fitting
+pub mod Foreign
+pub mod Opening
+pub mod Run
 pub mod Saying
+pub mod Serving
+pub mod Standing
+pub mod Steps
 pub mod Talk
-pub mod Talking
 pub mod Words

@@ -1,32 +1,47 @@
 -- A talk: what a run says, and what a crash may leave at each turn of it.
-use Rattle.std.specs.Prelude.{◌≡◌, ◌⊎◌, Bool, true, false, ℕ, ◌+◌, ◌≤◌, List, [], ◌∷◌, ◌++◌, length, Option, Some, None, option_to_list}
+use Rattle.std.specs.Prelude.{◌≡◌, ◌⊎◌, ◌||◌, Bool, true, false, ℕ, ◌≤◌, List, [], ◌∷◌, ◌++◌, Option, Some, None}
+use Rattle.std.specs.List.{list_any}
 use Rattle.cache_model.specs.declared.commands.Command.{Command}
-use Rattle.cache_model.specs.declared.commands.Command.TheVariants.{Put}
+use Rattle.cache_model.specs.declared.commands.Command.TheVariants.{Stop}
 use Rattle.cache_model.specs.Files.{Image}
-use Rattle.cache_model.specs.DataFiles.{Frame}
 use Rattle.cache_model.specs.Plain.{Plain, plain_after_all}
-use Rattle.cache_model.specs.Lines.{command_of}
+use Rattle.cache_model.specs.Lines.{LineMeaning, asks, refuses, meaning_of}
 use Rattle.cache_model.specs.Replies.{Response, opened_line, response_lines, stopped_line}
-use Rattle.cache_model.specs.Transcript.{IsTranscript, commands_done}
-use Rattle.cache_model.specs.Images.{IsSound}
-use Rattle.cache_model.specs.Prefix.{FitsPrefix, promised_changes}
-use Rattle.cache_disk.specs.State.{HostState, SameFiles}
+use Rattle.cache_model.specs.Transcript.{IsTranscript, commands_done, ends_talk}
+use Rattle.cache_model.specs.Images.{IsSound, SameRecords}
+use Rattle.cache_model.specs.Numbers.{Opens, IsNextSequence, IsNextFile}
+use Rattle.cache_model.specs.Prefix.{FitsPrefix}
+use Rattle.cache_disk.specs.State.{HostState}
 use Rattle.cache_disk.specs.Calls.{and_then_said}
-use Rattle.cache_session.specs.Session.{Opens, IsNextSequence, IsNextFile, frame_of}
+use Rattle.store_trait.specs.Meaning.{Numbers}
+use Rattle.cache_cli.specs.Fitting.{promised_of}
 
--- A talk: the plain map at the opening, the number of its first change and that of the file for its changes, the lines
--- that were answered so far, their answers, and whether the end of the script was answered.
+-- What a run is about: the files as they read when it began, what was said by then, the moment that was given, the lines of
+-- the script, and whether each change is synced before it is answered.
+pub record Course : Type 0 where
+  pub files : Image
+  pub said : Option (List ℕ)
+  pub given : ℕ
+  pub lines : List (List ℕ)
+  pub synced : Bool
+
+-- A talk: the plain map at the opening, the numbers of the first change, the lines that were answered so far, their
+-- answers, and whether the end of the script was answered.
 pub record Talk : Type 0 where
   pub opening : Plain
-  pub first : ℕ
-  pub number : ℕ
+  pub first : Numbers
   pub answered : List (List ℕ)
   pub responses : List Response
   pub ended : Bool
 
+-- the end of the script counts as a line `stop`
+abbrev pub end_commands : Bool → List Command
+end_commands true = Stop ∷ []
+end_commands false = []
+
 -- the commands that were done so far
 abbrev pub done_in : Talk → List Command
-done_in talk = commands_done talk.answered talk.responses
+done_in talk = commands_done talk.answered talk.responses ++ end_commands talk.ended
 
 -- the plain map after them
 abbrev pub plain_of : Talk → Plain
@@ -41,58 +56,58 @@ end_text false = []
 abbrev pub text_of : Talk → List ℕ
 text_of talk = opened_line talk.opening.moment ++ response_lines talk.responses ++ end_text talk.ended
 
--- the frame of a put
-abbrev pub frame_by : ℕ → ℕ → Command → List Frame
-frame_by seq moment (Put key value lifespan) = frame_of seq moment key value ∷ []
-frame_by seq moment command = []
+-- whether the talk is over: the end of the script was answered, or a line whose answer ends it
+abbrev pub is_over : Talk → Bool
+is_over talk = talk.ended || list_any ends_talk talk.responses
 
--- the frames of the puts among some commands, numbered from the first on
-abbrev pub frames_of : ℕ → ℕ → List Command → List Frame
-frames_of first moment [] = []
-frames_of first moment (command ∷ commands) = frame_by first moment command ++ frames_of (first + length (frame_by first moment command)) moment commands
-
--- the frames of a talk's puts
-abbrev pub frames_in : Talk → List Frame
-frames_in talk = frames_of talk.first talk.opening.moment (done_in talk)
-
--- A talk is one about a script over a directory, begun at a moment: it opens with what the files say and goes on with
--- their next numbers, and answers the script's first lines as one plain map does. These lines are left.
-pub record IsTalk (talk : Talk) (files : Image) (given : ℕ) (script left : List (List ℕ)) : Type 0 where
-  pub opens : Opens files given talk.opening
-  pub first : IsNextSequence files talk.first
-  pub number : IsNextFile files talk.number
-  pub split : script ≡ talk.answered ++ left
+-- A talk is one about a course: it opens with what the files say and goes on with their next numbers, and answers the
+-- first lines as one plain map does. These lines are left.
+pub record IsTalk (talk : Talk) (course : Course) (left : List (List ℕ)) : Type 0 where
+  pub opens : Opens course.files course.given talk.opening
+  pub first : IsNextSequence course.files talk.first.sequence
+  pub file : IsNextFile course.files talk.first.file
+  pub split : course.lines ≡ talk.answered ++ left
   pub answers : IsTranscript [] talk.opening talk.answered talk.responses
-  pub whole : talk.ended ≡ true → left ≡ []
+  pub whole : talk.ended ≡ true → (left ≡ []) × (list_any ends_talk talk.responses ≡ false)
 
--- the command of the line in hand, where there is one
-abbrev pub command_in_hand : List (List ℕ) → List Command
-command_in_hand [] = []
-command_in_hand (line ∷ lines) = option_to_list (command_of line)
+-- the command that a line asks for, where it asks for one
+abbrev pub asked_by : LineMeaning → List Command
+asked_by (asks command) = command ∷ []
+asked_by (refuses refusal) = []
+
+-- the command of the first of these lines; their end counts as `stop`
+abbrev pub next_command : List (List ℕ) → List Command
+next_command [] = Stop ∷ []
+next_command (line ∷ lines) = asked_by (meaning_of line)
+
+-- the command in hand, where the talk isn't over
+abbrev pub hand_of : Bool → List (List ℕ) → List Command
+hand_of true left = []
+hand_of false left = next_command left
 
 -- What was said is a talk, and every key of the image reads as after a prefix of its own changes by the commands that
--- were answered and the one in hand, which holds every change that was answered.
-pub record FitsTalk (from : HostState) (given : ℕ) (script : List (List ℕ)) (said : List ℕ) (image : Image) : Type 0 where
+-- were done and the one in hand, which holds every change that an answer promised.
+pub record FitsTalk (course : Course) (said : List ℕ) (image : Image) : Type 0 where
   pub talk : Talk
   pub left : List (List ℕ)
-  pub is_talk : IsTalk talk from.files given script left
-  pub says : Some said ≡ and_then_said (from.said from.turn) (text_of talk)
-  pub fits : (key : List ℕ) → FitsPrefix image talk.opening (done_in talk ++ command_in_hand left) (promised_changes talk.opening (done_in talk) key) key
+  pub is_talk : IsTalk talk course left
+  pub says : Some said ≡ and_then_said course.said (text_of talk)
+  pub fits : (key : List ℕ) → FitsPrefix image talk.opening (done_in talk ++ hand_of (is_over talk) left) (promised_of course.synced talk.opening (done_in talk) key) key
 
--- nothing was said yet, and the image is one that a crash might have left when the call began
+-- nothing was said yet, and the image has the records of one that a crash might have left when the call began
 pub record IsUntouched (from : HostState) (said : Option (List ℕ)) (image : Image) : Type 0 where
   pub silent : said ≡ from.said from.turn
   pub before : Image
   pub left : from.left from.turn before
-  pub same : SameFiles before image
+  pub same : SameRecords before image
 
 -- what holds of an image that a crash may leave at a turn by which this was said; nothing of its keys is said where
 -- saying failed
-abbrev pub HoldsAtTurn : HostState → ℕ → List (List ℕ) → Option (List ℕ) → Image → Type 0
-HoldsAtTurn from given script None image = IsSound image
-HoldsAtTurn from given script (Some said) image = IsSound image × (IsUntouched from (Some said) image ⊎ FitsTalk from given script said image)
+abbrev pub HoldsAtTurn : HostState → Course → Option (List ℕ) → Image → Type 0
+HoldsAtTurn from course None image = IsSound image
+HoldsAtTurn from course (Some said) image = IsSound image × (IsUntouched from (Some said) image ⊎ FitsTalk course said image)
 
 -- it holds at every turn of a run, from its first to its last
-pub record HoldsThroughout (from to : HostState) (given : ℕ) (script : List (List ℕ)) : Type 0 where
+pub record HoldsThroughout (from to : HostState) (course : Course) : Type 0 where
   pub later : from.turn ≤ to.turn
-  pub each : (t : ℕ) (image : Image) → from.turn ≤ t → t ≤ to.turn → to.left t image → HoldsAtTurn from given script (to.said t) image
+  pub each : (t : ℕ) (image : Image) → from.turn ≤ t → t ≤ to.turn → to.left t image → HoldsAtTurn from course (to.said t) image

@@ -3,11 +3,13 @@
 #![tactic(auto)]
 
 mod folder_host;
+mod foreign;
 mod handles;
 mod laws;
+mod run;
+mod saying;
 mod serve;
 mod stdin_source;
-mod talk;
 mod words;
 
 use cache_model::Status;
@@ -22,7 +24,7 @@ use stdin_source::StdinSource;
 fn main(rt: HostRuntime) -> ExitCode {
     let _places = [stand_in(&rt), stand_in(&rt), stand_in(&rt)];
     let status = match env::args(&rt) {
-        Ok(args) => run(rt, args),
+        Ok(args) => serve_args(rt, args),
         Err(error) if error.kind() == ErrorKind::OutOfMemory => Status::NoMemory,
         Err(_) => Status::Usage,
     };
@@ -30,7 +32,7 @@ fn main(rt: HostRuntime) -> ExitCode {
 }
 
 // The first argument is the program's name, the second the directory, and the others are the words of the run.
-fn run(rt: HostRuntime, mut args: env::Args) -> Status {
+fn serve_args(rt: HostRuntime, mut args: env::Args) -> Status {
     args.next();
     let Some(directory) = args.next() else {
         return Status::Usage;

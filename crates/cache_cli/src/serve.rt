@@ -1,47 +1,61 @@
 // A run: from the words to the end of the script.
-ghost use Rattle.std.specs.Prelude.{◌≡◌, ◌^◌, ◌<◌, ℕ, List, map, string_bytes, false, Some, None, IsTrue, IfOk, IfErr, MatchResult};
+ghost use Rattle.std.specs.Prelude.{◌≡◌, ◌⊎◌, ◌^◌, ◌<◌, ◌≤◌, [], ℕ, Bool, List, map, string_bytes, false, true, Some, None, max, if◌then◌else◌, nat_lt, IsTrue, IfErr};
 ghost use Rattle.cache_model.specs.Lines.{lines_of};
 ghost use Rattle.cache_model.specs.Images.{IsSound};
 ghost use Rattle.cache_model.specs.declared.replies.Status.TheVariants as status;
+ghost use Rattle.cache_disk.specs.State.{Stands};
 ghost use Rattle.cache_disk.specs.Calls.{AllLeft};
-ghost use Rattle.cache_session.specs.Session.{is_session_spoilt, IsUsable, IsSessionStanding};
-ghost use Rattle.cache_session.specs.Opening.{IsForeign, IsFirstDamageOf};
+ghost use Rattle.store_trait.specs.Keeping.{Leaves};
+ghost use Rattle.store_trait.specs.Calls.{IsReady};
+ghost use Rattle.soft_index.specs.Store.{owns_file};
+ghost use Rattle.cache_session.specs.Turns.{store_of, moment_of, is_broken, IsFit};
 ghost use Rattle.cache_cli.specs.Causes.{CauseOf, HostCauseOf, HasHostCause, HasCause};
-ghost use Rattle.cache_cli.specs.Ends.{IsUnused, Ends, EndsForeign};
-ghost use Rattle.cache_cli.specs.Talk.{HoldsThroughout};
-ghost use Rattle.cache_cli.specs.Talking.{HoldsFrom, Begins, Finished};
+ghost use Rattle.cache_cli.specs.Foreign.{IsForeign};
+ghost use Rattle.cache_cli.specs.Talk.{Course, HoldsThroughout};
+ghost use Rattle.cache_cli.specs.Run.{view, view_by};
+ghost use Rattle.cache_cli.specs.Opening.{Begins, Finished};
+ghost use Rattle.cache_cli.specs.Ends.{IsUnused, Ends, EndsForeign, EndsRefused};
+ghost use Rattle.cache_cli.specs.Serving.{course_of, Serves};
 ghost use Rattle.cache_cli.specs.Words.{words_moment};
 
-use crate::talk::{say, say_answer, talk};
+use crate::foreign::is_foreign;
+use crate::run::answer_script;
+use crate::saying::{say_answer, tell_damage};
 use crate::words::moment_of;
 use cache_disk::{Host, Source};
-use cache_model::{Damage, Status, StoreFault};
-use cache_script::{LineReader, damaged_line, file_name_text, opened_line};
-use cache_session::{Session, StartFault};
+use cache_model::{Key, Settings, Status, StoreFault};
+use cache_script::{LineReader, opened_line};
+use cache_session::Session;
+use soft_index::SoftIndex;
 use std::alloc::Global;
+use store_trait::Store;
 
 /// Runs the store on a script: the whole program, over any host and source. `words` are those behind the directory.
-pub fn serve<H: Host, S: Source>(
+pub fn serve<H: Host, I: Source>(
     alloc: Global,
     words: &[String],
     host: &mut H,
-    script: &mut S,
+    script: &mut I,
 ) -> Status
     // Other words than `--at` and a moment.
-    ensures usage { words_moment (map string_bytes words.now) ≡ None → result ≡ status.Usage }
-    ensures unused { IsTrue H.tells → words_moment (map string_bytes words.now) ≡ None → IsUnused (H.state host.old) (H.state host.new) }
+    ensures usage { words_moment (map string_bytes words.now) ≡ None
+        → (result ≡ status.Usage) × (IsTrue H.tells → IsUnused (course_of (H.state host.old) 0 []) (H.state host.new)) }
     // With good words: a directory with other files than data files.
-    ensures foreign { IsTrue H.tells → (given : ℕ) → words_moment (map string_bytes words.now) ≡ Some given
-        → IsForeign (H.state host.old).files → EndsForeign result }
-    // With good words: what is said and written, by the status.
-    ensures ends { IsTrue H.tells → IsTrue S.tells → (given : ℕ) → words_moment (map string_bytes words.now) ≡ Some given
-        → Ends result (H.state host.old) (H.state host.new) given (lines_of (S.rest script.old)) }
+    ensures foreign { IsTrue H.tells → IsForeign (H.state host.old).files → (given : ℕ) → words_moment (map string_bytes words.now) ≡ Some given → EndsForeign result }
+    // With good words: a directory that is damaged is refused.
+    ensures refused { IsTrue H.tells → (IsForeign (H.state host.old).files → ⊥) → (IsSound (H.state host.old).files → ⊥)
+        → (given : ℕ) → words_moment (map string_bytes words.now) ≡ Some given → EndsRefused result }
+    // With good words: what is said, by the status.
+    ensures ends { IsTrue H.tells → IsTrue I.tells → (given : ℕ) → words_moment (map string_bytes words.now) ≡ Some given
+        → Ends result (course_of (H.state host.old) given (lines_of (I.rest script.old))) (H.state host.new) }
+    // Files that aren't the store's are left alone, as they read and in what a crash may leave.
+    ensures others { IsTrue H.tells → IsTrue I.tells → Leaves owns_file false (H.state host.old) (H.state host.new) }
     // What a crash may leave at each turn, where nothing that it might have left before is damaged.
-    ensures crash { IsTrue H.tells → IsTrue S.tells → (given : ℕ) → words_moment (map string_bytes words.now) ≡ Some given
+    ensures crash { IsTrue H.tells → IsTrue I.tells → (given : ℕ) → words_moment (map string_bytes words.now) ≡ Some given
         → AllLeft (H.state host.old) (λ image. IsSound image)
-        → HoldsThroughout (H.state host.old) (H.state host.new) given (lines_of (S.rest script.old)) }
+        → HoldsThroughout (H.state host.old) (H.state host.new) (course_of (H.state host.old) given (lines_of (I.rest script.old))) }
     // A failure only where its count rose, and no other answer where one did.
-    ensures cause { CauseOf result (H.state host.old) (H.state host.new) (S.faults script.old) (S.faults script.new) }
+    ensures cause { CauseOf result (H.state host.old) (H.state host.new) (I.faults script.old) (I.faults script.new) }
 {
     match moment_of(words) {
         Some(given) => serve_from(alloc, given, host, script),
@@ -49,90 +63,113 @@ pub fn serve<H: Host, S: Source>(
     }
 }
 
-// Runs the store on a script from a moment on.
-fn serve_from<H: Host, S: Source>(alloc: Global, given: u64, host: &mut H, script: &mut S) -> Status
+// The later one of the moment that was given and the mark of the files.
+fn start_moment(given: u64, mark: u64) -> u64
+    ensures { result ≡ max given mark }
+{
+    if given < mark { mark } else { given }
+}
+
+// Runs the store on a script from a moment on, where the directory holds data files alone.
+fn serve_from<H: Host, I: Source>(alloc: Global, given: u64, host: &mut H, script: &mut I) -> Status
     requires { given < 2 ^ 61 }
     ensures foreign { IsTrue H.tells → IsForeign (H.state host.old).files → EndsForeign result }
-    ensures ends { IsTrue H.tells → IsTrue S.tells → Ends result (H.state host.old) (H.state host.new) given (lines_of (S.rest script.old)) }
-    ensures holds { IsTrue H.tells → IsTrue S.tells → HoldsFrom (H.state host.old) (H.state host.new) given (lines_of (S.rest script.old)) }
-    ensures cause { CauseOf result (H.state host.old) (H.state host.new) (S.faults script.old) (S.faults script.new) }
+    ensures refused { IsTrue H.tells → (IsForeign (H.state host.old).files → ⊥) → (IsSound (H.state host.old).files → ⊥) → EndsRefused result }
+    ensures serves { IsTrue H.tells → IsTrue I.tells
+        → Serves result (H.state host.old) (H.state host.new) (course_of (H.state host.old) given (lines_of (I.rest script.old))) }
+    ensures cause { CauseOf result (H.state host.old) (H.state host.new) (I.faults script.old) (I.faults script.new) }
 {
-    match open(alloc, host, given) {
-        Ok(session) => match converse(alloc, session, host, script) {
-            Ok(()) => Status::Done,
-            Err(status) => status,
-        },
+    match is_foreign(host) {
+        Ok(false) => serve_store(alloc, given, host, script),
+        Ok(true) => Status::Usage,
         Err(status) => status,
     }
+}
+
+// Opens the store and runs it on a script from a moment on.
+fn serve_store<H: Host, I: Source>(
+    alloc: Global,
+    given: u64,
+    host: &mut H,
+    script: &mut I,
+) -> Status
+    requires { given < 2 ^ 61 }
+    ensures refused { IsTrue H.tells → (IsSound (H.state host.old).files → ⊥) → EndsRefused result }
+    ensures serves { IsTrue H.tells → IsTrue I.tells → (from : H) → Stands (H.state from) (H.state host.old)
+        → Serves result (H.state from) (H.state host.new) (course_of (H.state from) given (lines_of (I.rest script.old))) }
+    ensures cause { CauseOf result (H.state host.old) (H.state host.new) (I.faults script.old) (I.faults script.new) }
+{
+    let Ok(settings) = Settings::defaults(alloc) else {
+        return Status::NoMemory;
+    };
+    match SoftIndex::start(alloc, host, 0, &settings, |_key: &Key| true) {
+        Ok((store, mark)) => {
+            let ran = run_store(alloc, store, start_moment(given, mark), host, script);
+            match ran.result {
+                Ok(()) => Status::Done,
+                Err(status) => status,
+            }
+        }
+        Err(StoreFault::Failed) => Status::DiskFailed,
+        Err(StoreFault::Memory) => Status::NoMemory,
+        Err(StoreFault::Spent(_)) => Status::Spent,
+        Err(StoreFault::Damaged(damage)) => tell_damage(alloc, host, &damage),
+    }
+}
+
+// The session as a run left it, and what the run ended with.
+#[derive(Drop)]
+struct Ran<S> {
+    session: Session<S>,
+    result: Result<(), Status>,
+}
+
+// Runs a store that was opened on a script from a moment on, and gives the session as it leaves it.
+fn run_store<H: Host, I: Source, S: Store<H>>(
+    alloc: Global,
+    store: S,
+    moment: u64,
+    host: &mut H,
+    script: &mut I,
+) -> Ran<S>
+    requires ready { IsReady (S.facts store) moment }
+    requires stands { IsTrue H.tells → (S.means store (H.state host.old)).stands }
+    ensures finished { IsTrue H.tells → IsTrue I.tells → (course : Course) (ordered : Bool)
+        → course.lines ≡ lines_of (I.rest script.old)
+        → Begins course ordered (view (S.facts store) (S.means store (H.state host.old)) (H.state host.old) moment)
+        → Finished (H.state host.old) course ordered (view_by S.facts S.means result.session (H.state host.new)) result.result }
+    ensures cause { HasCause (H.state host.old) (H.state host.new) (I.faults script.old) (I.faults script.new) result.result }
+{
+    let mut session = Session::new(alloc, store, moment);
+    let result = converse(alloc, &mut session, host, script);
+    Ran { session, result }
 }
 
 // Says that the directory is open, and answers the script.
-fn converse<H: Host, S: Source>(
+fn converse<H: Host, I: Source, S: Store<H>>(
     alloc: Global,
-    session: Session,
+    session: &mut Session<S>,
     host: &mut H,
-    script: &mut S,
+    script: &mut I,
 ) -> Result<(), Status>
-    requires sound { is_session_spoilt session ≡ false }
-    requires usable { IsUsable session }
-    requires stands { IsTrue H.tells → IsSessionStanding session (H.state host.old) }
-    ensures finished { IsTrue H.tells → IsTrue S.tells → (from : H) (given : ℕ)
-        → Begins (H.state from) given (lines_of (S.rest script.old)) session (H.state host.old)
-        → Finished (H.state from) given (lines_of (S.rest script.old)) (H.state host.new) result }
-    ensures cause { HasCause (H.state host.old) (H.state host.new) (S.faults script.old) (S.faults script.new) result }
+    requires fit { IsFit (S.facts (store_of session.old)) (is_broken session.old) (moment_of session.old) }
+    requires stands { IsTrue H.tells → (S.means (store_of session.old) (H.state host.old)).stands }
+    ensures finished { IsTrue H.tells → IsTrue I.tells → (course : Course) (ordered : Bool)
+        → course.lines ≡ lines_of (I.rest script.old)
+        → Begins course ordered (view_by S.facts S.means session.old (H.state host.old))
+        → Finished (H.state host.old) course ordered (view_by S.facts S.means session.new (H.state host.new)) result }
+    ensures cause { HasCause (H.state host.old) (H.state host.new) (I.faults script.old) (I.faults script.new) result }
 {
-    let mut session = session;
     let Ok(line) = opened_line(alloc, session.moment()) else {
         return Err(Status::NoMemory);
     };
-    say_answer(&session, host, line.as_bytes())?;
+    if let Err(status) = say_answer(session, host, line.as_bytes()) {
+        return Err(status);
+    }
     let Ok(mut reader) = LineReader::new(alloc) else {
         return Err(Status::NoMemory);
     };
-    talk(alloc, &mut session, &mut reader, host, script)
-}
-
-// Opens the directory, or says where it is damaged.
-fn open<H: Host>(alloc: Global, host: &mut H, given: u64) -> Result<Session, Status>
-    requires { given < 2 ^ 61 }
-    ensures sound { IfOk result (λ session. is_session_spoilt session ≡ false) }
-    ensures usable { IfOk result (λ session. IsUsable session) }
-    ensures standing { IsTrue H.tells → IfOk result (λ session. IsSessionStanding session (H.state host.new)) }
-    ensures begins { IsTrue H.tells → (script : List (List ℕ)) → IfOk result (λ session. Begins (H.state host.old) given script session (H.state host.new)) }
-    ensures foreign { IsTrue H.tells → IsForeign (H.state host.old).files → MatchResult result (λ _. ⊥) EndsForeign }
-    ensures ends { IsTrue H.tells → (script : List (List ℕ)) → IfErr result (λ ended. Ends ended (H.state host.old) (H.state host.new) given script) }
-    ensures holds { IsTrue H.tells → (script : List (List ℕ)) → HoldsFrom (H.state host.old) (H.state host.new) given script }
-    ensures cause { HasHostCause (H.state host.old) (H.state host.new) result }
-{
-    match Session::start(alloc, host, given) {
-        Ok(session) => Ok(session),
-        Err(StartFault::Foreign) => Err(Status::Usage),
-        Err(StartFault::Store(StoreFault::Failed)) => Err(Status::DiskFailed),
-        Err(StartFault::Store(StoreFault::Memory)) => Err(Status::NoMemory),
-        Err(StartFault::Store(StoreFault::Spent(_))) => Err(Status::Spent),
-        Err(StartFault::Store(StoreFault::Damaged(damage))) => Err(tell_damage(
-            alloc, host, &damage,
-        )),
-    }
-}
-
-// Says the line of a damage, and what the run ends with.
-fn tell_damage<H: Host>(alloc: Global, host: &mut H, damage: &Damage) -> Status
-    ensures ends { IsTrue H.tells → (from : H) (given : ℕ) (script : List (List ℕ))
-        → IsFirstDamageOf (H.state from).files damage.now → IsUnused (H.state from) (H.state host.old)
-        → Ends result (H.state from) (H.state host.new) given script }
-    ensures cause { HostCauseOf result (H.state host.old) (H.state host.new) }
-{
-    let Ok(file) = file_name_text(alloc, damage.file) else {
-        return Status::NoMemory;
-    };
-    let Ok(line) = damaged_line(alloc, file.as_str(), damage) else {
-        return Status::NoMemory;
-    };
-    match say(host, line.as_bytes()) {
-        Ok(()) => Status::Damaged,
-        Err(status) => status,
-    }
+    answer_script(alloc, session, &mut reader, host, script)
 }
 
 #[cfg(test)]

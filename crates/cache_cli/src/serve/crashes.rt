@@ -1,201 +1,291 @@
-// Crashes at each turn of a run. A put that was answered outlasts them, and of the one that wasn't there is all or
-// nothing: the files read as the plain map after the puts that were answered by then, or after one put more.
+// Crashes at each turn of a run. A change that was answered outlasts them, and of the one that wasn't there is all or
+// nothing, but of a `clear` there are any of its removals: the files read as the plain map does.
+ghost use Rattle.std.specs.Prelude.{IsTrue};
+ghost use Rattle.host_memory.specs.Files.{are_named_apart};
+
 use super::plain_reader::Records;
 use super::tests::{FIRST, NamedBytes, ONE_PUT, directory_of, serve_script};
-use cache_model::{Command, Key, Lifespan, PlainCache, Prefix, Status, Value};
-use host_memory::{MemoryHost, MemorySource};
+use cache_model::{PlainCache, Prefix, Status};
+use cache_script::{opened_line, read_line, write_reply};
+use host_memory::{DiskFile, MemoryHost, MemorySource};
 use std::alloc::Global;
 use std::process::Abort;
 use std::test::Fail;
 
-// The moment of all runs.
-const MOMENT: u64 = 1000;
+// The first moment of all runs, and one that is later than all their changes.
+pub(super) const FIRST_MOMENT: u64 = 1000;
+
+pub(super) const LATER: u64 = 1011;
 
 const WORDS: [&str; 2] = ["--at", "1000"];
 
-// What a run says first and last.
-const OPENED: &[u8] = b"opened 1000\n";
+// The keys, in the order of their bytes.
+pub(super) const KEYS: [&str; 3] = ["a", "b", "c"];
 
-const STOPPED: &[u8] = b"stopped\n";
+// The lines that read them, at the moment of an opening and at the later one.
+const READS: [&str; 9] = [
+    "keys", "get a", "get b", "get c", "at 1011", "keys", "get a", "get b", "get c",
+];
 
-// A key, and the value that is put under it.
-type Put = (&'static str, &'static str);
+// A line that changes something, and the moment at which it's done.
+type Change = (u64, &'static str);
 
-// A script of puts over a directory with one file at most, which holds these puts. The keys are those that are read.
+// A script of changes over a directory with one file at most, which holds the stored ones.
 #[derive(Clone, Copy, Debug)]
 struct Scenario {
     file: Option<NamedBytes>,
-    stored: &'static [Put],
-    puts: &'static [Put],
-    keys: &'static [&'static str],
+    stored: &'static [Change],
+    changes: &'static [Change],
 }
 
 const ONE_MORE: Scenario = Scenario {
     file: Some((FIRST, ONE_PUT)),
-    stored: &[("a", "b")],
-    puts: &[("a", "c")],
-    keys: &["a"],
+    stored: &[(1000, "put a b")],
+    changes: &[(1005, "put a c ttl 5")],
 };
 
-const EIGHT: Scenario = Scenario {
+const MANY: Scenario = Scenario {
     file: None,
     stored: &[],
-    puts: &[
-        ("moss", "1"),
-        ("fern", "22"),
-        ("moss", "333"),
-        ("m", "4"),
-        ("fern", "5"),
-        ("moss", "6"),
-        ("m", "777777"),
-        ("fern", "8"),
+    changes: &[
+        (1000, "put a 1"),
+        (1000, "put b 22 ttl 10"),
+        (1000, "put c 3 ttl 2"),
+        (1002, "replace a 44 ttl 9"),
+        (1002, "putabsent c 5 ttl 20"),
+        (1002, "remove b"),
+        (1002, "put b 6"),
+        (1004, "clear"),
+        (1004, "put b 7"),
+        (1004, "put a 8 ttl 0"),
+        (1004, "put a 9 ttl 7"),
+        (1004, "removeif b 7"),
     ],
-    keys: &["moss", "fern", "m"],
 };
+
+// The plain map with what is said of the lines on it.
+#[derive(Debug, Drop)]
+struct PlainRun {
+    map: PlainCache,
+    said: Vec<u8>,
+}
+
+impl PlainRun {
+    // Over an empty map.
+    fn begin(alloc: Global) -> PlainRun {
+        PlainRun {
+            map: PlainCache::new(alloc, FIRST_MOMENT),
+            said: Vec::new(alloc),
+        }
+    }
+
+    // Answers a line.
+    fn answer(&mut self, rt: &impl Abort, alloc: Global, line: &str) -> Result<(), Fail> {
+        let Ok(command) = read_line(alloc, line.as_bytes()) else {
+            panic!(rt; "no command: {line}");
+        };
+        let publish = Prefix::of(alloc, &[])?;
+        let reply = self.map.step(&publish, command)?;
+        write_reply(&reply.expect(rt, "a client's line"), &mut self.said)?;
+        Ok(())
+    }
+
+    // Does a change at its moment.
+    fn change(&mut self, rt: &impl Abort, alloc: Global, change: Change) -> Result<(), Fail> {
+        let (moment, line) = change;
+        self.answer(rt, alloc, format!(in alloc; "at {moment}")?.as_str())?;
+        self.answer(rt, alloc, line)
+    }
+
+    // Removes some of the keys at a moment: those whose bits are set.
+    fn remove(
+        &mut self,
+        rt: &impl Abort,
+        alloc: Global,
+        moment: u64,
+        keys: u8,
+    ) -> Result<(), Fail> {
+        let mut bits = keys;
+        for line in ["remove a", "remove b", "remove c"] {
+            if bits % 2 == 1 {
+                self.change(rt, alloc, (moment, line))?;
+            }
+            bits /= 2;
+        }
+        Ok(())
+    }
+
+    // What a run says that opens the map at a moment and reads the keys.
+    fn reading(mut self, rt: &impl Abort, alloc: Global, mark: u64) -> Result<Vec<u8>, Fail> {
+        self.said = opened_line(alloc, mark)?.into_bytes();
+        for line in READS {
+            self.answer(rt, alloc, line)?;
+        }
+        self.said.extend_from_slice(b"stopped\n")?;
+        Ok(self.said)
+    }
+}
+
+// What may be said of the keys, where so many changes were answered at least and so many at most.
+#[derive(Debug, Drop)]
+struct Reading {
+    least: usize,
+    most: usize,
+    said: Vec<u8>,
+}
 
 // A scenario's run without a crash, and what is to be read of it.
 #[derive(Debug, Drop)]
 struct Course {
-    scenario: Scenario,
     host: MemoryHost,
-    // For each put the turn from which on it was answered.
+    // For each change the turn from which on it was answered.
     answered: Vec<u64>,
-    // What a run says that reads the keys after each number of puts, from none on.
-    readings: Vec<Vec<u8>>,
-}
-
-// The lines of some puts.
-fn lines_of_puts(alloc: Global, puts: &[Put], count: usize) -> Result<Vec<u8>, Fail> {
-    let mut lines = String::new(alloc);
-    for (key, value) in puts.iter().take(count) {
-        lines.push_str(format!(in alloc; "put {key} {value}\n")?.as_str())?;
-    }
-    Ok(lines.into_bytes())
-}
-
-// The lines of a read of each key.
-fn lines_of_reads(alloc: Global, keys: &[&str]) -> Result<Vec<u8>, Fail> {
-    let mut lines = String::new(alloc);
-    for key in keys {
-        lines.push_str(format!(in alloc; "get {key}\n")?.as_str())?;
-    }
-    Ok(lines.into_bytes())
-}
-
-// Adds what is said of a key with this value.
-fn push_answer(said: &mut Vec<u8>, value: Option<&[u8]>) -> Result<(), Fail> {
-    match value {
-        Some(value) => {
-            said.extend_from_slice(b"value ")?;
-            said.extend_from_slice(value)?;
-            said.push(b'\n')?;
-        }
-        None => said.extend_from_slice(b"none\n")?,
-    }
-    Ok(())
+    readings: Vec<Reading>,
 }
 
 impl Scenario {
-    // The host after a run of the first puts.
+    // The lines of the first changes, each behind its moment where that's another one.
+    fn lines(&self, alloc: Global, count: usize) -> Result<String, Fail> {
+        let mut lines = String::new(alloc);
+        let mut last = FIRST_MOMENT;
+        for (moment, line) in self.changes.iter().take(count) {
+            if *moment != last {
+                lines.push_str(format!(in alloc; "at {moment}\n")?.as_str())?;
+                last = *moment;
+            }
+            lines.push_str(format!(in alloc; "{line}\n")?.as_str())?;
+        }
+        Ok(lines)
+    }
+
+    // The host after a run of the first changes.
     fn host_after(&self, rt: &impl Abort, alloc: Global, count: usize) -> Result<MemoryHost, Fail> {
         let files = directory_of(rt, alloc, self.file)?;
         let mut host = MemoryHost::new(alloc, files, Vec::new(alloc), Vec::new(alloc), 0)?;
-        let lines = lines_of_puts(alloc, self.puts, count)?;
-        let script = MemorySource::new(alloc, lines, Vec::new(alloc))?;
+        let lines = self.lines(alloc, count)?;
+        let script = MemorySource::new(alloc, lines.into_bytes(), Vec::new(alloc))?;
         let status = serve_script(alloc, &WORDS, &mut host, script)?;
-        assert_eq!(rt; status, Status::Done, "the run of {count} puts");
+        assert_eq!(rt; status, Status::Done, "the run of {count} changes");
         Ok(host)
     }
 
-    // The plain map after the first puts.
-    fn map_after(&self, alloc: Global, count: usize) -> Result<PlainCache, Fail> {
-        let publish = Prefix::of(alloc, &[])?;
-        let mut map = PlainCache::new(alloc, MOMENT);
-        for (key, value) in self.stored.iter().chain(self.puts.iter().take(count)) {
-            let key = Key::of(alloc, key.as_bytes())?;
-            let value = Value::of(alloc, value.as_bytes())?;
-            map.step(&publish, Command::Put(key, value, Lifespan::Endless))?;
+    // The plain map after the first changes, and the moment of the last one.
+    fn plain_after(
+        &self,
+        rt: &impl Abort,
+        alloc: Global,
+        count: usize,
+    ) -> Result<(PlainRun, u64), Fail> {
+        let mut run = PlainRun::begin(alloc);
+        let mut mark = FIRST_MOMENT;
+        for change in self.stored.iter().chain(self.changes.iter().take(count)) {
+            run.change(rt, alloc, *change)?;
+            mark = change.0;
         }
-        Ok(map)
+        Ok((run, mark))
     }
 
-    // What a run says that reads the keys of a plain map.
-    fn said_of_map(&self, alloc: Global, map: &PlainCache) -> Result<Vec<u8>, Fail> {
-        let mut said = OPENED.to_vec(alloc)?;
-        for key in self.keys {
-            let entry = map.visible_entry(&Key::of(alloc, key.as_bytes())?);
-            push_answer(&mut said, entry.map(|entry| entry.value.bytes()))?;
-        }
-        said.extend_from_slice(STOPPED)?;
-        Ok(said)
-    }
-
-    // What a run says that reads the keys of the records of some files.
-    fn said_of_records(&self, alloc: Global, records: &Records<'_>) -> Result<Vec<u8>, Fail> {
-        let mut said = OPENED.to_vec(alloc)?;
-        for key in self.keys {
-            push_answer(&mut said, records.value_of(key.as_bytes(), MOMENT))?;
-        }
-        said.extend_from_slice(STOPPED)?;
-        Ok(said)
-    }
-
-    // Runs the reads of the keys on a host.
-    fn read_on(&self, rt: &impl Abort, alloc: Global, host: &mut MemoryHost) -> Result<(), Fail> {
-        let script = MemorySource::new(alloc, lines_of_reads(alloc, self.keys)?, Vec::new(alloc))?;
-        let status = serve_script(alloc, &WORDS, host, script)?;
-        assert_eq!(rt; status, Status::Done);
+    // Adds what may be said after the first changes.
+    fn push_reading(
+        &self,
+        rt: &impl Abort,
+        alloc: Global,
+        count: usize,
+        readings: &mut Vec<Reading>,
+    ) -> Result<(), Fail> {
+        let (run, mark) = self.plain_after(rt, alloc, count)?;
+        readings.push(Reading {
+            least: count.saturating_sub(1),
+            most: count,
+            said: run.reading(rt, alloc, mark)?,
+        })?;
         Ok(())
     }
 
-    // The run, and what its puts come to.
-    fn course(self, rt: &impl Abort, alloc: Global) -> Result<Course, Fail> {
+    // Adds what may be said where a `clear` behind the first changes stops after any of its removals.
+    fn push_removals(
+        &self,
+        rt: &impl Abort,
+        alloc: Global,
+        count: usize,
+        moment: u64,
+        readings: &mut Vec<Reading>,
+    ) -> Result<(), Fail> {
+        for keys in 1..8 {
+            let (mut run, _) = self.plain_after(rt, alloc, count)?;
+            run.remove(rt, alloc, moment, keys)?;
+            readings.push(Reading {
+                least: count,
+                most: count,
+                said: run.reading(rt, alloc, moment)?,
+            })?;
+        }
+        Ok(())
+    }
+
+    // What may be said, by how many changes were answered.
+    fn readings(&self, rt: &impl Abort, alloc: Global) -> Result<Vec<Reading>, Fail> {
+        let mut readings = Vec::new(alloc);
+        self.push_reading(rt, alloc, 0, &mut readings)?;
+        for (count, (moment, line)) in self.changes.iter().enumerate() {
+            if *line == "clear" {
+                self.push_removals(rt, alloc, count, *moment, &mut readings)?;
+            }
+            self.push_reading(rt, alloc, count + 1, &mut readings)?;
+        }
+        Ok(readings)
+    }
+
+    // The run, and what its changes come to.
+    fn course(&self, rt: &impl Abort, alloc: Global) -> Result<Course, Fail> {
         let mut answered = Vec::new(alloc);
-        let mut readings = vec![in alloc; self.said_of_map(alloc, &self.map_after(alloc, 0)?)?]?;
-        for count in 1..=self.puts.len() {
+        for count in 1..=self.changes.len() {
             // Behind the last answer it says only that it stopped.
             answered.push(self.host_after(rt, alloc, count)?.turns().saturating_sub(1))?;
-            readings.push(self.said_of_map(alloc, &self.map_after(alloc, count)?)?)?;
         }
         Ok(Course {
-            scenario: self,
-            host: self.host_after(rt, alloc, self.puts.len())?,
+            host: self.host_after(rt, alloc, self.changes.len())?,
             answered,
-            readings,
+            readings: self.readings(rt, alloc)?,
         })
     }
 }
 
+// What a run on these files says that reads the keys.
+fn said_of_run(rt: &impl Abort, alloc: Global, image: Vec<DiskFile>) -> Result<Vec<u8>, Fail>
+    requires apart { IsTrue (are_named_apart image.items) }
+{
+    let mut host = MemoryHost::new(alloc, image, Vec::new(alloc), Vec::new(alloc), 0)?;
+    let mut lines = String::new(alloc);
+    for line in READS {
+        lines.push_str(format!(in alloc; "{line}\n")?.as_str())?;
+    }
+    let script = MemorySource::new(alloc, lines.into_bytes(), Vec::new(alloc))?;
+    let status = serve_script(alloc, &WORDS, &mut host, script)?;
+    assert_eq!(rt; status, Status::Done, "the run of the reads");
+    Ok(host.said().to_vec(alloc)?)
+}
+
 impl Course {
-    // Whether it is said after the puts that were answered by this turn, or after one put more.
+    // Whether it may be said of what a crash at this turn leaves.
     fn allows(&self, turn: u64, said: &[u8]) -> bool {
         let answered = self.answered.iter().filter(|at| **at <= turn).count();
-        let mut readings = self.readings.iter().skip(answered).take(2);
-        readings.any(|reading| reading.as_slice() == said)
+        self.readings.iter().any(|reading| {
+            reading.least <= answered && answered <= reading.most && reading.said.as_slice() == said
+        })
     }
 
-    // Crashes at a turn, and reads what each choice leaves by a run.
-    fn runs_after(&self, rt: &impl Abort, alloc: Global, turn: u64) -> Result<(), Fail> {
+    // Crashes at a turn, and reads what each choice leaves by a run and plainly.
+    fn reads_after(&self, rt: &impl Abort, alloc: Global, turn: u64) -> Result<(), Fail> {
         for choice in 0..=7 {
             assert!(rt; turn <= self.host.turns());
             let image = self.host.image_at(turn, choice)?;
-            let mut host = MemoryHost::new(alloc, image, Vec::new(alloc), Vec::new(alloc), 0)?;
-            self.scenario.read_on(rt, alloc, &mut host)?;
+            let plainly = Records::read(rt, alloc, &image)?.reading(alloc)?;
             assert!(rt;
-                self.allows(turn, host.said()),
-                "at turn {turn} by {choice}"
+                self.allows(turn, &plainly),
+                "read plainly at turn {turn} by {choice}"
             );
-        }
-        Ok(())
-    }
-
-    // Crashes at a turn, and reads what each choice leaves plainly.
-    fn reads_after(&self, rt: &impl Abort, alloc: Global, turn: u64) -> Result<(), Fail> {
-        for choice in 0..=23 {
-            assert!(rt; turn <= self.host.turns());
-            let image = self.host.image_at(turn, choice)?;
-            let records = Records::read(rt, alloc, &image)?;
-            let said = self.scenario.said_of_records(alloc, &records)?;
+            let said = said_of_run(rt, alloc, image)?;
             assert!(rt; self.allows(turn, &said), "at turn {turn} by {choice}");
         }
         Ok(())
@@ -203,21 +293,12 @@ impl Course {
 }
 
 #[test]
-fn a_crash_in_one_more_put(rt: HostRuntime) -> Result<(), Fail> {
-    let course = ONE_MORE.course(&rt, rt.alloc())?;
-    for turn in 0..=course.host.turns() {
-        course.runs_after(&rt, rt.alloc(), turn)?;
-        course.reads_after(&rt, rt.alloc(), turn)?;
-    }
-    Ok(())
-}
-
-#[test]
-fn a_crash_among_eight_puts(rt: HostRuntime) -> Result<(), Fail> {
-    let course = EIGHT.course(&rt, rt.alloc())?;
-    for turn in 0..=course.host.turns() {
-        course.runs_after(&rt, rt.alloc(), turn)?;
-        course.reads_after(&rt, rt.alloc(), turn)?;
+fn a_crash_leaves_what_was_answered(rt: HostRuntime) -> Result<(), Fail> {
+    for scenario in [ONE_MORE, MANY] {
+        let course = scenario.course(&rt, rt.alloc())?;
+        for turn in 0..=course.host.turns() {
+            course.reads_after(&rt, rt.alloc(), turn)?;
+        }
     }
     Ok(())
 }

@@ -1,6 +1,8 @@
 // A plain reader of data files, written from their format alone: gates, the version, frames, and of the records that
 // count the newest of each key.
+use super::crashes::{FIRST_MOMENT, KEYS, LATER};
 use cache_model::{FileKind, Until};
+use cache_script::opened_line;
 use host_memory::DiskFile;
 use record_format::{Item, Span, Step, decode};
 use std::alloc::Global;
@@ -23,10 +25,11 @@ struct Record<'a> {
     entry: Option<(&'a [u8], Until)>,
 }
 
-// The records that count in an image.
+// The records that count in an image, and the greatest moment of their frames.
 #[derive(Debug, Drop)]
 pub(super) struct Records<'a> {
     all: Vec<Record<'a>>,
+    mark: u64,
 }
 
 // A part of some bytes.
@@ -98,6 +101,7 @@ impl<'a> Records<'a> {
     ) -> Result<Records<'a>, Fail> {
         let mut records = Records {
             all: Vec::new(alloc),
+            mark: FIRST_MOMENT,
         };
         for file in image {
             let name = file.name();
@@ -120,6 +124,9 @@ impl<'a> Records<'a> {
             let Step::Whole(item, end) = decode(bytes, at) else {
                 panic!(rt; "no item at {at}");
             };
+            if let Item::End { moment } = item {
+                self.mark = self.mark.max(moment);
+            }
             if let Some(record) = record_of(rt, bytes, item, file, at) {
                 self.all.push(record)?;
             }
@@ -129,8 +136,34 @@ impl<'a> Records<'a> {
         Ok(())
     }
 
+    // What a run says that reads the keys at the mark and later.
+    pub(super) fn reading(&self, alloc: Global) -> Result<Vec<u8>, Fail> {
+        let mut said = opened_line(alloc, self.mark)?.into_bytes();
+        self.push_answers(&mut said, self.mark)?;
+        said.extend_from_slice(b"ok\n")?;
+        self.push_answers(&mut said, LATER)?;
+        said.extend_from_slice(b"stopped\n")?;
+        Ok(said)
+    }
+
+    // Adds what is said of the keys at a moment: which have a value, and then each one's.
+    fn push_answers(&self, said: &mut Vec<u8>, moment: u64) -> Result<(), Fail> {
+        said.extend_from_slice(b"keys")?;
+        for key in KEYS {
+            if self.value_of(key.as_bytes(), moment).is_some() {
+                said.push(b' ')?;
+                said.extend_from_slice(key.as_bytes())?;
+            }
+        }
+        said.push(b'\n')?;
+        for key in KEYS {
+            push_answer(said, self.value_of(key.as_bytes(), moment))?;
+        }
+        Ok(())
+    }
+
     // The value of a key at a moment, by its newest record.
-    pub(super) fn value_of(&self, key: &[u8], moment: u64) -> Option<&'a [u8]> {
+    fn value_of(&self, key: &[u8], moment: u64) -> Option<&'a [u8]> {
         let mut newest: Option<Record<'a>> = None;
         for record in &self.all {
             if record.key == key && is_newer(record, newest) {
@@ -142,6 +175,19 @@ impl<'a> Records<'a> {
             (value, Until::At(end)) => if moment < end { Some(value) } else { None },
         }
     }
+}
+
+// Adds what is said of a key with this value.
+fn push_answer(said: &mut Vec<u8>, value: Option<&[u8]>) -> Result<(), Fail> {
+    match value {
+        Some(value) => {
+            said.extend_from_slice(b"value ")?;
+            said.extend_from_slice(value)?;
+            said.push(b'\n')?;
+        }
+        None => said.extend_from_slice(b"none\n")?,
+    }
+    Ok(())
 }
 
 // Whether a record is newer: by the sequence number, then the file, then the offset.

@@ -25,6 +25,19 @@ const CLOSED_PUT: &[u8] = &[
     98, 0, 0, 0, 0, 0, 0, 0, 3, 232, 0,
 ];
 
+// The file of one put, and behind it a put of `A` under `a` with the number 2.
+const TWO_PUTS: &[u8] = &[
+    1, 1, 1, 0, 0, 0, 0, 0, 0, 0, 1, 255, 255, 255, 255, 255, 255, 255, 255, 0, 1, 0, 0, 0, 1, 97,
+    98, 0, 0, 0, 0, 0, 0, 0, 3, 232, 1, 1, 0, 0, 0, 0, 0, 0, 0, 2, 255, 255, 255, 255, 255, 255,
+    255, 255, 0, 1, 0, 0, 0, 1, 97, 65, 0, 0, 0, 0, 0, 0, 0, 3, 232, 0,
+];
+
+// A put of `v` under `k` that ends at 1010.
+const SHORT_PUT: &[u8] = &[
+    1, 1, 1, 0, 0, 0, 0, 0, 0, 0, 1, 0, 0, 0, 0, 0, 0, 3, 242, 0, 1, 0, 0, 0, 1, 107, 118, 0, 0, 0,
+    0, 0, 0, 0, 3, 232, 0,
+];
+
 // A put of `c` under `a` with the number 2.
 const NEXT_PUT: &[u8] = &[
     1, 1, 1, 0, 0, 0, 0, 0, 0, 0, 2, 255, 255, 255, 255, 255, 255, 255, 255, 0, 1, 0, 0, 0, 1, 97,
@@ -71,7 +84,7 @@ const SECOND: &str = "s0-0000000002.log";
 const LAST: &str = "s0-4294967294.log";
 
 // Lines over an empty directory.
-const LINES: [(Given, Outcome); 3] = [
+const LINES: [(Given, Outcome); 6] = [
     (
         PLAIN,
         Outcome {
@@ -98,9 +111,128 @@ const LINES: [(Given, Outcome); 3] = [
         },
         Outcome {
             status: Status::Done,
-            said: "opened 1000\nok\nvalue b\nrefused syntax\nrefused syntax\nstopped\n",
+            said: "opened 1000\nok\nvalue b\nrefused syntax\nok\nstopped\n",
+            files: &[(FIRST, TWO_PUTS)],
+        },
+    ),
+    (
+        Given {
+            script: "put k v ttl 10\nat 1009\nget k\nat 1010\nget k\n",
+            ..PLAIN
+        },
+        Outcome {
+            status: Status::Done,
+            said: "opened 1000\nok\nok\nvalue v\nok\nnone\nstopped\n",
+            files: &[(FIRST, SHORT_PUT)],
+        },
+    ),
+    (
+        Given {
+            words: &["--at", "3"],
+            script: "at 9\nat 5\nat 9\n",
+            ..PLAIN
+        },
+        Outcome {
+            status: Status::Done,
+            said: "opened 3\nok\nrefused past 9\nok\nstopped\n",
+            files: &[],
+        },
+    ),
+    // A line may end in a CR too, and behind a line that stops the run nothing is done.
+    (
+        Given {
+            script: "put a b\r\nhas a\r\nstop\nput a c\n",
+            ..PLAIN
+        },
+        Outcome {
+            status: Status::Done,
+            said: "opened 1000\nok\nyes\nstopped\n",
             files: &[(FIRST, ONE_PUT)],
         },
+    ),
+];
+
+// A line, and what is said of it.
+type Answered = (&'static str, &'static str);
+
+// Each line of a client once at least, in one run.
+const TALK: [Answered; 19] = [
+    ("putabsent a 1", "ok"),
+    ("putabsent a 2", "kept"),
+    ("replace a 3", "ok"),
+    ("replace b 1", "none"),
+    ("replaceif a 1 9", "differs"),
+    ("replaceif a 3 4", "ok"),
+    ("has a", "yes"),
+    ("has b", "no"),
+    ("removeif a 3", "differs"),
+    ("removeif b 3", "none"),
+    ("removeif a 4", "ok"),
+    ("remove a", "none"),
+    ("put x %00%20", "ok"),
+    ("get x", "value %00%20"),
+    ("put y %.", "ok"),
+    ("get y", "value %."),
+    ("keys", "keys x y"),
+    ("size", "size 2"),
+    ("clear", "cleared 2"),
+];
+
+// What is said by a run on the files of that one.
+const TALK_AFTER: [Answered; 4] = [
+    ("size", "size 0"),
+    ("keys", "keys"),
+    ("get x", "none"),
+    ("has y", "no"),
+];
+
+// Lines that are refused, one run of them.
+const REFUSALS: [Answered; 13] = [
+    ("put", "refused syntax"),
+    ("", "refused syntax"),
+    ("put a", "refused syntax"),
+    ("put a b c", "refused syntax"),
+    ("put a %4", "refused syntax"),
+    ("get %.", "refused key 0"),
+    ("put %. b", "refused key 0"),
+    ("put a c ttl 2305843009213693952", "refused ttl"),
+    ("at 2305843009213693952", "refused syntax"),
+    ("at 999", "refused past 1000"),
+    ("clear a", "refused syntax"),
+    ("remove", "refused syntax"),
+    ("stop a", "refused syntax"),
+];
+
+// A part of a script: some text, or a byte so many times.
+#[derive(Clone, Copy, Debug)]
+enum Part {
+    Text(&'static str),
+    Many(u8, usize),
+}
+
+// Scripts with keys, values and lines at their limits and beyond, and what is said.
+const LONG: [(&[Part], &str); 2] = [
+    (
+        &[
+            Part::Text("put "),
+            Part::Many(b'a', 1024),
+            Part::Text(" "),
+            Part::Many(b'b', 65_536),
+            Part::Text("\nput "),
+            Part::Many(b'a', 1025),
+            Part::Text(" b\nput a "),
+            Part::Many(b'b', 65_537),
+            Part::Text("\nsize\n"),
+        ],
+        "opened 1000\nok\nrefused key 1025\nrefused value 65537\nsize 1\nstopped\n",
+    ),
+    (
+        &[
+            Part::Text("put a b ttl -7\n"),
+            Part::Many(b'x', 1_048_577),
+            Part::Text("\nget a\nput a b ttl 0\nget a\n"),
+        ],
+        "opened 1000\nok\nrefused long\nvalue b\nok\nnone\nstopped\n",
     ),
 ];
 
@@ -351,6 +483,8 @@ fn damage_is_named(rt: HostRuntime) -> Result<(), Fail> {
         assert_eq!(rt; status, Status::Damaged, "at {bytes:?}");
         assert_eq!(rt; host.said(), said.as_bytes(), "at {bytes:?}");
         assert_eq!(rt; host.names()?.len(), 1, "at {bytes:?}");
+        let name = name_of(&rt, rt.alloc(), FIRST)?;
+        assert_eq!(rt; host.file(name), Some(bytes), "at {bytes:?}");
     }
     Ok(())
 }
@@ -372,25 +506,144 @@ fn other_files_are_refused(rt: HostRuntime) -> Result<(), Fail> {
     Ok(())
 }
 
+// The lines of a talk, or what a run on them says.
+fn joined(alloc: Global, words: &[&str]) -> Result<Vec<u8>, Fail> {
+    let mut lines = Vec::new(alloc);
+    for word in words {
+        lines.extend_from_slice(word.as_bytes())?;
+        lines.push(b'\n')?;
+    }
+    Ok(lines)
+}
+
+// Runs the program on a talk from the moment 1000 on, and compares what is said.
+fn talks(
+    rt: &impl Abort,
+    alloc: Global,
+    host: &mut MemoryHost,
+    talk: &[Answered],
+) -> Result<(), Fail> {
+    let mut lines = Vec::new(alloc);
+    let mut said = vec![in alloc; "opened 1000"]?;
+    for (line, answer) in talk {
+        lines.push(*line)?;
+        said.push(*answer)?;
+    }
+    said.push("stopped")?;
+    let script = MemorySource::new(alloc, joined(alloc, &lines)?, Vec::new(alloc))?;
+    let status = serve_script(alloc, PLAIN.words, host, script)?;
+    assert_eq!(rt; status, Status::Done);
+    let said = joined(alloc, &said)?;
+    assert_eq!(rt; host.said(), said.as_slice());
+    Ok(())
+}
+
+// The host of a run on the files that an earlier one left.
+fn later_host(alloc: Global, host: &MemoryHost) -> Result<MemoryHost, Fail> {
+    // Everything as it reads.
+    let image = host.image_at(host.turns(), 1)?;
+    Ok(MemoryHost::new(alloc, image, Vec::new(alloc), Vec::new(alloc), 0)?)
+}
+
 #[test]
-fn a_later_run_reads_what_was_put(rt: HostRuntime) -> Result<(), Fail> {
+fn later_runs_read_what_was_changed(rt: HostRuntime) -> Result<(), Fail> {
+    let alloc = rt.alloc();
+    let mut host = host_of(&rt, alloc, &PLAIN)?;
+    talks(&rt, alloc, &mut host, &TALK)?;
+    talks(&rt, alloc, &mut later_host(alloc, &host)?, &TALK_AFTER)?;
+    let given = Given {
+        file: Some((FIRST, ONE_PUT)),
+        ..PLAIN
+    };
+    let mut host = host_of(&rt, alloc, &given)?;
+    talks(&rt, alloc, &mut host, &[("put a c", "ok")])?;
+    talks(
+        &rt,
+        alloc,
+        &mut later_host(alloc, &host)?,
+        &[("get a", "value c")],
+    )
+}
+
+// Refused lines change no file, and no entry.
+#[test]
+fn refusals_change_nothing(rt: HostRuntime) -> Result<(), Fail> {
     let alloc = rt.alloc();
     let given = Given {
         file: Some((FIRST, ONE_PUT)),
-        script: "put a c\n",
+        ..PLAIN
+    };
+    let mut host = host_of(&rt, alloc, &given)?;
+    talks(&rt, alloc, &mut host, &REFUSALS)?;
+    assert_eq!(rt; host.names()?.len(), 1);
+    assert_eq!(rt; host.file(name_of(&rt, alloc, FIRST)?), Some(ONE_PUT));
+    let mut later = later_host(alloc, &host)?;
+    talks(
+        &rt,
+        alloc,
+        &mut later,
+        &[("keys", "keys a"), ("get a", "value b")],
+    )
+}
+
+// The bytes of a script.
+fn script_of(alloc: Global, parts: &[Part]) -> Result<Vec<u8>, Fail> {
+    let mut script = Vec::new(alloc);
+    for part in parts {
+        match part {
+            Part::Text(text) => script.extend_from_slice(text.as_bytes())?,
+            Part::Many(byte, count) => {
+                for _ in 0..*count {
+                    script.push(*byte)?;
+                }
+            }
+        }
+    }
+    Ok(script)
+}
+
+#[test]
+fn long_lines_come_out(rt: HostRuntime) -> Result<(), Fail> {
+    let alloc = rt.alloc();
+    for (parts, said) in LONG {
+        let mut host = host_of(&rt, alloc, &PLAIN)?;
+        let script = MemorySource::new(alloc, script_of(alloc, parts)?, Vec::new(alloc))?;
+        let status = serve_script(alloc, PLAIN.words, &mut host, script)?;
+        assert_eq!(rt; status, Status::Done, "{parts:?}");
+        assert_eq!(rt; host.said(), said.as_bytes(), "{parts:?}");
+        // A later run begins at the mark.
+        let given = Given {
+            words: &["--at", "5"],
+            ..PLAIN
+        };
+        let mut later = later_host(alloc, &host)?;
+        assert_eq!(rt;
+            run_on(alloc, &given, &mut later)?,
+            Status::Done,
+            "{parts:?}"
+        );
+        assert_eq!(rt; later.said(), b"opened 1000\nstopped\n".as_slice());
+    }
+    Ok(())
+}
+
+// The line `halt` is answered, and nothing else is done at it or behind it.
+#[test]
+fn halt_writes_nothing(rt: HostRuntime) -> Result<(), Fail> {
+    let alloc = rt.alloc();
+    let given = Given {
+        script: "put a b\nhalt\nput a c\n",
         ..PLAIN
     };
     let mut host = host_of(&rt, alloc, &given)?;
     assert_eq!(rt; run_on(alloc, &given, &mut host)?, Status::Done);
-    // Everything as it reads.
-    let image = host.image_at(host.turns(), 1)?;
-    let given = Given {
-        script: "get a\n",
-        ..PLAIN
-    };
-    let mut later = MemoryHost::new(alloc, image, Vec::new(alloc), Vec::new(alloc), 0)?;
-    assert_eq!(rt; run_on(alloc, &given, &mut later)?, Status::Done);
-    assert_eq!(rt; later.said(), b"opened 1000\nvalue c\nstopped\n".as_slice());
+    assert_eq!(rt; host.said(), b"opened 1000\nok\nhalted\n".as_slice());
+    // The last turn is what is said of it.
+    let before = host.image_at(host.turns().saturating_sub(1), 1)?;
+    assert_eq!(rt; before.len(), 1);
+    assert_eq!(rt; before[0].bytes(), ONE_PUT);
+    assert_eq!(rt; host.file(before[0].name()), Some(ONE_PUT));
+    assert_eq!(rt; host.names()?.len(), 1);
     Ok(())
 }
 
@@ -419,10 +672,10 @@ fn pieces_make_no_difference(rt: HostRuntime) -> Result<(), Fail> {
     Ok(())
 }
 
-// How many calls of the disk the script makes: the names, a sync of the file and of the names, its size and its bytes;
+// How many calls of the disk the script makes: the names twice, a sync of the file and of the names, its size and its bytes;
 // for the first put the file, its gate, a sync of both kinds, the version, the record, the end, a sync, the gate and a
 // sync; and for the second put the record, the end, a sync, the gate and a sync.
-const DISK_CALLS: u64 = 5 + 10 + 5;
+const DISK_CALLS: u64 = 6 + 10 + 5;
 
 #[test]
 fn each_call_of_the_disk_fails_in_turn(rt: HostRuntime) -> Result<(), Fail> {

@@ -1,0 +1,157 @@
+-- A line more is answered.
+use Rattle.std.proofs.Common.{◌≡◌, inl, ℕ, Bool, true, false, List, [], ◌∷◌, ◌++◌, Option, Some, None, Result, Ok, Err, refl, sym, ◌∙◌, ap, subst}
+use Rattle.std.specs.Prelude.{◌||◌, not}
+use Rattle.std.specs.List.{list_any}
+use Rattle.std.proofs.lemmas.List.{append-nil}
+use Rattle.std.proofs.lemmas.List.Folds.{list_any-append}
+use Rattle.cache_model.specs.declared.commands.Command.{Command}
+use Rattle.cache_model.specs.declared.commands.Command.TheVariants.{Stop}
+use Rattle.cache_model.specs.declared.replies.Reply.{Reply}
+use Rattle.cache_model.specs.declared.replies.Status.{Status}
+use Rattle.cache_model.specs.Plain.{plain_reply}
+use Rattle.cache_model.specs.Lines.{LineMeaning, asks, refuses, meaning_of}
+use Rattle.cache_model.specs.Replies.{Response, Refusal, replies, refused, reply_text, refusal_text, line_of}
+use Rattle.cache_model.specs.Transcript.{IsReply, Answers, command_done, ends_talk}
+use Rattle.cache_disk.specs.State.{HostState}
+use Rattle.cache_disk.specs.Calls.{and_then_said}
+use Rattle.cache_session.specs.Turns.{IsReplyOf}
+use Rattle.cache_cli.specs.Talk.{Course, Talk, done_in, plain_of, is_over}
+use Rattle.cache_cli.specs.Run.{View, TellsMore, IsTelling, IsTalking, IsInHand, Told, AnswersBy, Answered, LongAnswered, Closed}
+use Rattle.cache_cli.proofs.Answering.{with_answer, with_end, not_ended, none_ends, done-append, talk-append, says-append, done-end, talk-end, says-end}
+use Rattle.cache_cli.proofs.Running.{retell}
+use Rattle.cache_cli.proofs.Ending.{says_of, ends_saying}
+
+or_false : (b : Bool) → (b || false) ≡ b
+or_false true = refl
+or_false false = refl
+
+-- a talk that wasn't over is over with an answer that ends it
+pub over-append : (talk : Talk) (line : List ℕ) (response : Response) → is_over talk ≡ false → is_over (with_answer talk line response) ≡ ends_talk response
+over-append talk line response going =
+    ap (λ (b : Bool). b || list_any ends_talk (talk.responses ++ response ∷ [])) (not_ended talk going)
+    ∙ list_any-append ends_talk talk.responses (response ∷ [])
+    ∙ ap (λ (b : Bool). b || list_any ends_talk (response ∷ [])) (none_ends talk going)
+    ∙ or_false (ends_talk response)
+
+-- a refusal is in hand
+none_done : (meaning : LineMeaning) (refusal : Refusal) → command_done meaning (refused refusal) ≡ []
+none_done (asks command) refusal = refl
+none_done (refuses other) refusal = refl
+
+pub refusal_in_hand : (from : HostState) (course : Course) (ordered : Bool) (left : List (List ℕ)) (talk : Talk) (line : List ℕ) (refusal : Refusal) (now : View)
+    → IsTalking from course ordered (line ∷ left) talk now
+    → Answers [] (plain_of talk) (meaning_of line) (refused refusal)
+    → IsInHand from course ordered left (with_answer talk line (refused refusal)) (line_of (refusal_text refusal)) now
+refusal_in_hand from course ordered left talk line refusal now talking answers =
+    let response = refused refusal in
+    let is = talking.0.is_talk in
+    retell from course ordered (line ∷ left) left talk now (now.host.said now.host.turn) (and_then_said (now.host.said now.host.turn) (line_of (refusal_text refusal)))
+    (talk.answered ++ line ∷ []) (talk.responses ++ response ∷ []) talk.ended talking.0
+    (done-append course left talk talking.1 line response is ∙ ap (λ (cs : List Command). done_in talk ++ cs) (none_done (meaning_of line) refusal) ∙ append-nil (done_in talk))
+    (talk-append course left talk talking.1 line response is answers)
+    (says-append course left talk talking.1 line response (now.host.said now.host.turn) talking.0.says)
+
+-- the reply of a command that was done is in hand
+is_reply : (wanted : Option Reply) (reply : Reply) → IsReplyOf wanted reply → IsReply wanted (replies reply)
+is_reply (Some other) reply is = ap (λ (r : Reply). replies r) is
+is_reply None reply is = (reply, refl)
+
+pub reply_in_hand : (from : HostState) (course : Course) (ordered : Bool) (left : List (List ℕ)) (talk : Talk) (line : List ℕ) (command : Command) (reply : Reply) (old now : View)
+    → IsTalking from course ordered (line ∷ left) talk old
+    → meaning_of line ≡ asks command
+    → IsReplyOf (plain_reply [] (plain_of talk) command) reply
+    → now.host.said now.host.turn ≡ old.host.said old.host.turn
+    → TellsMore from course ordered talk command now
+    → IsInHand from course ordered left (with_answer talk line (replies reply)) (line_of (reply_text reply)) now
+reply_in_hand from course ordered left talk line command reply old now talking asked is_reply_of said more =
+    let response = replies reply in
+    let is = talking.0.is_talk in
+    more left (and_then_said (now.host.said now.host.turn) (line_of (reply_text reply))) (talk.answered ++ line ∷ []) (talk.responses ++ response ∷ []) talk.ended
+    (done-append course left talk talking.1 line response is ∙ ap (λ (m : LineMeaning). done_in talk ++ command_done m response) asked)
+    (talk-append course left talk talking.1 line response is (subst (λ (m : LineMeaning). Answers [] (plain_of talk) m response) (sym asked) (inl (is_reply (plain_reply [] (plain_of talk) command) reply is_reply_of))))
+    (says-append course left talk talking.1 line response (now.host.said now.host.turn) (said ∙ talking.0.says))
+
+-- the answer to the end of the script is in hand
+pub end_in_hand : (from : HostState) (course : Course) (ordered : Bool) (talk : Talk) (reply : Reply) (old now : View)
+    → IsTalking from course ordered [] talk old
+    → IsReplyOf (plain_reply [] (plain_of talk) Stop) reply
+    → now.host.said now.host.turn ≡ old.host.said old.host.turn
+    → TellsMore from course ordered talk Stop now
+    → IsInHand from course ordered [] (with_end talk) (line_of (reply_text reply)) now
+end_in_hand from course ordered talk reply old now talking stopped said more =
+    more [] (and_then_said (now.host.said now.host.turn) (line_of (reply_text reply))) talk.answered talk.responses true
+    (done-end course [] talk talking.1)
+    (talk-end course [] talk talking.1 talking.0.is_talk refl)
+    (ap (λ (r : Reply). and_then_said (now.host.said now.host.turn) (line_of (reply_text r))) stopped ∙ says-end course [] talk talking.1 (now.host.said now.host.turn) (said ∙ talking.0.says))
+
+module _ (from : HostState) (course : Course) (ordered : Bool) (left : List (List ℕ)) (talk : Talk) (line : List ℕ) (response : Response) (going : is_over talk ≡ false) where
+  negated : (b : Bool) → true ≡ not b → b ≡ false
+  negated true h = h
+  negated false h = refl
+
+  negated_too : (b : Bool) → false ≡ not b → b ≡ true
+  negated_too true h = refl
+  negated_too false h = h
+
+  -- an answer was said: the session talks on, or the talk is over
+  pub said_by : (more : Bool) (now : View) → more ≡ not (ends_talk response) → IsTelling from course ordered left (with_answer talk line response) now (now.host.said now.host.turn)
+      → AnswersBy more from course ordered left (talk.answered ++ line ∷ []) now
+  said_by true now is telling = record { talk = with_answer talk line response; talking = (telling, over-append talk line response going ∙ negated (ends_talk response) is); answers = refl }
+  said_by false now is telling = record {
+    talk = with_answer talk line response;
+    left = left;
+    says = says_of from course ordered left (with_answer talk line response) now (now.host.said now.host.turn) now.host telling refl;
+    over = over-append talk line response going ∙ negated_too (ends_talk response) is;
+    answers = refl;
+    ends = not_ended talk going;
+  }
+
+module _ (from : HostState) (course : Course) (ordered : Bool) (left : List (List ℕ)) (talk : Talk) (line : List ℕ) (response : Response) (old mid now : View)
+    (talking : IsTalking from course ordered (line ∷ left) talk old) (same : mid.host.said mid.host.turn ≡ old.host.said old.host.turn) where
+  pub answered_ok : (more : Bool) → more ≡ not (ends_talk response) → Told from course ordered left (with_answer talk line response) mid now (Ok tt)
+      → Answered from course ordered left (talk.answered ++ line ∷ []) now (Ok more)
+  answered_ok more is told = record { goes = said_by from course ordered left talk line response talking.1 more now is told.goes; ends = tt; holds = told.holds }
+
+  pub answered_err : (ended : Status) → Told from course ordered left (with_answer talk line response) mid now (Err ended)
+      → Answered from course ordered left (talk.answered ++ line ∷ []) now (Err ended)
+  answered_err ended told = record { goes = tt; ends = ends_saying from course ordered (line ∷ left) talk old now mid.host ended talking same told.ends; holds = told.holds }
+
+-- a line that is too long
+pub long_answered : (from : HostState) (course : Course) (ordered : Bool) (left : List (List ℕ)) (talk : Talk) (line : List ℕ) (refusal : Refusal) (old now : View) (result : Result (Unit {0}) Status)
+    → IsTalking from course ordered (line ∷ left) talk old
+    → Told from course ordered left (with_answer talk line (refused refusal)) old now result
+    → LongAnswered from course ordered left (talk.answered ++ line ∷ []) now result
+long_answered from course ordered left talk line refusal old now (Ok done) talking told = record {
+  goes = said_by from course ordered left talk line (refused refusal) talking.1 true now refl told.goes;
+  ends = tt;
+  holds = told.holds;
+}
+long_answered from course ordered left talk line refusal old now (Err ended) talking told = record {
+  goes = tt;
+  ends = ends_saying from course ordered (line ∷ left) talk old now old.host ended talking refl told.ends;
+  holds = told.holds;
+}
+
+-- the end of the script
+pub closed : (from : HostState) (course : Course) (ordered : Bool) (talk : Talk) (old mid now : View) (result : Result (Unit {0}) Status)
+    → IsTalking from course ordered [] talk old
+    → mid.host.said mid.host.turn ≡ old.host.said old.host.turn
+    → Told from course ordered [] (with_end talk) mid now result
+    → Closed from course ordered talk now result
+closed from course ordered talk old mid now (Ok done) talking same told = record {
+  over = record {
+    talk = with_end talk;
+    left = [];
+    says = says_of from course ordered [] (with_end talk) now (now.host.said now.host.turn) now.host told.goes refl;
+    over = refl;
+    answers = refl;
+    ends = refl;
+  };
+  ends = tt;
+  holds = told.holds;
+}
+closed from course ordered talk old mid now (Err ended) talking same told = record {
+  over = tt;
+  ends = ends_saying from course ordered [] talk old now mid.host ended talking same told.ends;
+  holds = told.holds;
+}

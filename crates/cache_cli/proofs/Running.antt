@@ -1,0 +1,324 @@
+-- A run goes on: by a turn of its session, by an answer that is said, by a line that is refused.
+use Rattle.std.proofs.Common.{◌≡◌, ◌⊎◌, inl, inr, ⊎_elim, ℕ, ◌+◌, ◌-◌, ◌^◌, ◌≤◌, ◌<◌, Bool, false, List, [], ◌∷◌, ◌++◌, length, Option, Some, None, Result, Ok, Err, refl, sym, ◌∙◌, ap, subst, arith, length-append}
+use Rattle.std.specs.Prelude.{sum_by}
+use Rattle.std.proofs.lemmas.Bool.{cases_lt}
+use Rattle.std.proofs.lemmas.List.Sums.{sum_by-append, sum_by-cons}
+use Rattle.cache_model.specs.declared.commands.Command.{Command}
+use Rattle.cache_model.specs.declared.entries.Change.{Change}
+use Rattle.cache_model.specs.declared.faults.StoreFault.{StoreFault}
+use Rattle.cache_model.specs.declared.faults.StoreFault.TheVariants as fault
+use Rattle.cache_model.specs.declared.files.FileName.{FileName}
+use Rattle.cache_model.specs.declared.replies.Reply.{Reply}
+use Rattle.cache_model.specs.Plain.{Plain, plain_after_all, moment_after}
+use Rattle.cache_model.specs.Replies.{Response}
+use Rattle.cache_model.proofs.Prefixes.{plain_after_all-append}
+use Rattle.cache_disk.specs.declared.host.HostFault.{HostFault}
+use Rattle.cache_disk.specs.State.{HostState, Silent, GoesOn, Moves, SameFiles}
+use Rattle.cache_disk.specs.Calls.{Said, and_then_said}
+use Rattle.cache_disk.proofs.Runs.{weaker}
+use Rattle.store_trait.specs.Meaning.{Reading, Content, Numbers, StoreFacts, StoreState}
+use Rattle.store_trait.specs.Keeping.{SameWhere, SameStore, Leaves, Carries, HoldsNow}
+use Rattle.store_trait.specs.Calls.{IsNumbered}
+use Rattle.store_trait.proofs.Runs.{leaves_then}
+use Rattle.cache_session.specs.Turns.{files_by, Turns}
+use Rattle.cache_cli.specs.Fitting.{promised_of, IsLog, ReadsPrefix, ReadsCut}
+use Rattle.cache_cli.specs.Standing.{Standing}
+use Rattle.cache_cli.specs.Talk.{Course, Talk, IsTalk, done_in, plain_of, text_of, is_over, hand_of, next_command}
+use Rattle.cache_cli.specs.Run.{View, with_words, TellsAt, HoldsSince, IsTelling, IsTalking, IsInHand}
+use Rattle.cache_cli.proofs.Logs.{log_snoc, log_on}
+use Rattle.cache_cli.proofs.Standing.{in_turn, in_turn_whole, to_prefix, to_cut, fit_more, fit_all_more, done_one, refused_one, carried}
+
+-- a call that said nothing: what was said by a turn since then is what was said before
+quiet : (a b : HostState) (t : ℕ) → a.turn ≤ t → t ≤ b.turn → Silent a b → b.said t ≡ a.said a.turn
+quiet a b t after before silent =
+    ⊎_elim (λ later. silent.since t later before) (λ early. let same : t ≡ a.turn = omega arith in subst (λ (n : ℕ). b.said n ≡ a.said a.turn) (sym same) (silent.stays a.turn (omega arith))) (cases_lt a.turn t)
+
+-- what a talk tells of a store it tells of one that may be left with no more
+tells_still : (course : Course) (ordered : Bool) (s u : StoreState) (t : ℕ) (said : List ℕ)
+    → ((key : List ℕ) (r : Reading) (mark : ℕ) → u.may t key r mark → s.may t key r mark)
+    → ((c : Content) (mark : ℕ) → u.whole t c mark → s.whole t c mark)
+    → TellsAt course ordered s t said → TellsAt course ordered u t said
+tells_still course ordered s u t said fewer fewer_whole tells = record {
+  talk = tells.talk;
+  left = tells.left;
+  is_talk = tells.is_talk;
+  says = tells.says;
+  fits = λ key r mark may. tells.fits key r mark (fewer key r mark may);
+  cut = λ is c mark may. tells.cut is c mark (fewer_whole c mark may);
+}
+
+-- other files than a store's were left alone in two steps
+others_then : (f g : StoreFacts) (a b c : HostState) → SameStore f g → Leaves f.owns false a b → Leaves f.owns false b c → Leaves g.owns false a c
+others_then f g a b c same first second = subst (λ (owns : FileName → Bool). Leaves owns false a c) (sym same.owns) (leaves_then f.owns false a b c first second)
+
+module _ (from : HostState) (course : Course) (ordered : Bool) (left : List (List ℕ)) (talk : Talk) (old new : View) (command : Command) (spoilt : Bool) (result : Result Reply StoreFault)
+    (talking : IsTalking from course ordered left talk old)
+    (hand : next_command left ≡ command ∷ [])
+    (same : SameStore old.facts new.facts)
+    (turn : Turns [] (plain_of talk) command old.facts new.facts spoilt old.store new.store old.host new.host result) where
+  log_is : IsLog talk.opening (done_in talk ++ command ∷ []) (talking.0.standing.log ++ turn.changes)
+  log_is = log_snoc talk.opening (done_in talk) command talking.0.standing.log turn.changes talking.0.standing.is_log turn.order
+
+  hand_is : command ∷ [] ≡ hand_of (is_over talk) left
+  hand_is = sym (ap (λ (b : Bool). hand_of b left) talking.1 ∙ hand)
+
+  -- within the turn everything fits the talk with the command in hand
+  tells_within : (t : ℕ) (said : List ℕ) → old.host.turn ≤ t → t ≤ new.host.turn → new.host.said t ≡ Some said → TellsAt course ordered new.store t said
+  tells_within t said late to is = record {
+    talk = talk;
+    left = left;
+    is_talk = talking.0.is_talk;
+    says = sym is ∙ quiet old.host new.host t late to turn.did.silent ∙ talking.0.says;
+    fits = λ key r mark may. subst (λ (h : List Command). ReadsPrefix course.synced talk.opening (done_in talk) h key r mark) hand_is
+        (to_prefix course.synced talk.opening (done_in talk) (command ∷ []) (talking.0.standing.log ++ turn.changes) talking.0.base key r mark talking.0.opening log_is
+        (in_turn talk.opening (done_in talk) course.synced ordered old.facts talking.0.base old.store new.store old.host.turn new.host.turn (plain_of talk).moment turn.changes talking.0.standing refl turn.did.keeps t key r mark late to may));
+    cut = λ orderly c mark may. subst (λ (h : List Command). ReadsCut course.synced talk.opening (done_in talk) h c mark) hand_is
+        (to_cut course.synced talk.opening (done_in talk) (command ∷ []) (talking.0.standing.log ++ turn.changes) talking.0.base c mark talking.0.opening log_is
+        (in_turn_whole talk.opening (done_in talk) course.synced ordered old.facts talking.0.base old.store new.store old.host.turn new.host.turn (plain_of talk).moment turn.changes talking.0.standing refl turn.did.keeps orderly t c mark late to may));
+  }
+
+  -- it holds through the turn, whatever it answers
+  pub turn_holds : HoldsSince from course ordered new
+  turn_holds = record {
+    others = others_then old.facts new.facts from old.host new.host same talking.0.holds.others turn.did.others;
+    past = λ t early. turn.did.silent.stays t (omega (arith, early, talking.0.holds.others.images.later)) ∙ talking.0.holds.past t early;
+    each = λ t said since to is.
+        ⊎_elim
+        (λ early. tells_still course ordered old.store new.store t said (λ key r mark may. turn.did.keeps.past t key r mark early may) (λ c mark may. turn.did.keeps.past_whole t c mark early may)
+        (talking.0.holds.each t said since (omega (arith, early)) (sym (turn.did.silent.stays t (omega (arith, early))) ∙ is)))
+        (λ late. tells_within t said late to is)
+        (cases_lt t old.host.turn);
+    opens = λ t since to.
+        ⊎_elim
+        (λ early. turn.did.opens.past t early (talking.0.holds.opens t since (omega (arith, early))))
+        (λ late. turn.did.opens.since talking.0.sound t late to)
+        (cases_lt t old.host.turn);
+  }
+
+-- a standing for an equal list of commands
+standing_at : (plain : Plain) (d e : List Command) (synced orderly : Bool) (g : StoreFacts) (base : Content) (s : StoreState) (turn : ℕ) → d ≡ e
+    → (so : Standing plain d synced orderly g base s turn) → (next : Standing plain e synced orderly g base s turn) × (next.log ≡ so.log)
+standing_at plain d e synced orderly g base s turn same so =
+    subst (λ (l : List Command). (next : Standing plain l synced orderly g base s turn) × (next.log ≡ so.log)) same (so, refl)
+
+-- numbers went on twice
+numbered_then : (n k : ℕ) (first : Numbers) (b c : Option Numbers) → IsNumbered n (Some first) b → IsNumbered k b c → IsNumbered (n + k) (Some first) c
+numbered_then n k first None c one two = absurd (nothing one.0 one.1)
+  where
+    nothing : (m : Numbers) → None ≡ Some m → ⊥
+    nothing m h = cc
+numbered_then n k first (Some b) c one two = (
+  two.0,
+  two.1,
+  record {
+    sequence = omega (arith, two.2.sequence, ap (λ (m : Numbers). m.sequence) (same b one.0 one.1), one.2.sequence);
+    file = omega (arith, two.2.file, ap (λ (m : Numbers). m.file) (same b one.0 one.1), one.2.file);
+    within = λ some. by some (cases_lt 0 k);
+  },
+)
+  where
+    same : (x y : Numbers) → Some x ≡ Some y → x ≡ y
+    same x y h = cc
+
+    file_is : b.file ≡ one.0.file
+    file_is = ap (λ (m : Numbers). m.file) (same b one.0 one.1)
+
+    sequence_is : b.sequence ≡ one.0.sequence
+    sequence_is = ap (λ (m : Numbers). m.sequence) (same b one.0 one.1)
+
+    by : 1 ≤ n + k → (0 < k) ⊎ (k ≤ 0) → (two.0.sequence ≤ 2 ^ 62) × (first.file < 2 ^ 32 - 1)
+    by some (inl more) = let ends = two.2.within (omega (arith, more)) in (ends.0, omega (arith, ends.1, file_is, one.2.file))
+    by some (inr none) = let ends = one.2.within (omega (arith, some, none)) in (omega (arith, ends.0, two.2.sequence, sequence_is, none), ends.1)
+
+numbered_by : (n m : ℕ) (a b : Option Numbers) → n ≡ m → IsNumbered n a b → IsNumbered m a b
+numbered_by n m a b same is = subst (λ (k : ℕ). IsNumbered k a b) same is
+
+-- a talk told by other words of it
+pub retell : (from : HostState) (course : Course) (ordered : Bool) (left left_next : List (List ℕ)) (talk : Talk) (now : View) (said said_next : Option (List ℕ)) (answered : List (List ℕ)) (responses : List Response) (ended : Bool)
+    → IsTelling from course ordered left talk now said
+    → done_in (with_words talk answered responses ended) ≡ done_in talk
+    → IsTalk (with_words talk answered responses ended) course left_next
+    → said_next ≡ and_then_said course.said (text_of (with_words talk answered responses ended))
+    → IsTelling from course ordered left_next (with_words talk answered responses ended) now said_next
+retell from course ordered left left_next talk now said said_next answered responses ended telling done is_talk says =
+    let next = with_words talk answered responses ended in
+    let standing = standing_at talk.opening (done_in talk) (done_in next) course.synced ordered now.facts telling.base now.store now.host.turn (sym done) telling.standing in
+    let len : length telling.standing.log ≡ length standing.0.log = ap (λ (l : List Change). length l) (sym standing.1) in
+    record {
+      is_talk = is_talk;
+      says = says;
+      stands = telling.stands;
+      sound = telling.sound;
+      base = telling.base;
+      opening = telling.opening;
+      standing = standing.0;
+      moment = ap (λ (l : List Command). (plain_after_all talk.opening l).moment) done ∙ telling.moment;
+      numbers = numbered_by (length telling.standing.log) (length standing.0.log) (Some talk.first) now.facts.numbers len telling.numbers;
+      drawn = omega (arith, telling.drawn, len);
+      made = omega (arith, telling.made, len, ap (λ (l : List Command). sum_by files_by l) done);
+      holds = telling.holds;
+    }
+
+module _ (from : HostState) (course : Course) (ordered : Bool) (left : List (List ℕ)) (talk : Talk) (old new : View) (command : Command) (spoilt : Bool)
+    (talking : IsTalking from course ordered left talk old)
+    (hand : next_command left ≡ command ∷ [])
+    (same : SameStore old.facts new.facts)
+    (unspoilt : spoilt ≡ false) where
+  -- a command was done: with these words of the talk, which have that command more
+  pub done_tells : (reply : Reply) (left_next : List (List ℕ)) (said : Option (List ℕ)) (answered : List (List ℕ)) (responses : List Response) (ended : Bool)
+      → (turn : Turns [] (plain_of talk) command old.facts new.facts spoilt old.store new.store old.host new.host (Ok reply))
+      → HoldsNow new.facts new.store new.host.turn
+      → new.moment ≡ moment_after old.moment command
+      → done_in (with_words talk answered responses ended) ≡ done_in talk ++ command ∷ []
+      → IsTalk (with_words talk answered responses ended) course left_next
+      → said ≡ and_then_said course.said (text_of (with_words talk answered responses ended))
+      → IsTelling from course ordered left_next (with_words talk answered responses ended) new said
+  done_tells reply left_next said answered responses ended turn now moment done is_talk says =
+      let next = with_words talk answered responses ended in
+      let so = talking.0 in
+      let plain = talk.opening in
+      let more = done_one plain (done_in talk) command course.synced ordered old.facts new.facts so.base old.store new.store old.host.turn new.host.turn turn.changes so.standing same turn.did.others.images.later turn.did.keeps turn.order
+      (record { content = turn.did.content; shows = turn.shows; promised = turn.promised }) now.fits in
+      let standing = standing_at plain (done_in talk ++ command ∷ []) (done_in next) course.synced ordered new.facts so.base new.store new.host.turn (sym done) more.0 in
+      let len : length standing.0.log ≡ length so.standing.log + length turn.changes = ap (λ (l : List Change). length l) (standing.1 ∙ more.1) ∙ length-append so.standing.log turn.changes in
+      let files : sum_by files_by (done_in next) ≡ sum_by files_by (done_in talk) + files_by command =
+      ap (λ (l : List Command). sum_by files_by l) done ∙ sum_by-append files_by (done_in talk) (command ∷ []) ∙ ap (λ (n : ℕ). sum_by files_by (done_in talk) + n) (sum_by-cons files_by command [] ∙ omega arith) in
+      record {
+        is_talk = is_talk;
+        says = says;
+        stands = turn.did.stands unspoilt;
+        sound = turn.did.sound so.sound;
+        base = so.base;
+        opening = so.opening;
+        standing = standing.0;
+        moment = ap (λ (l : List Command). (plain_after_all plain l).moment) done ∙ ap (λ (p : Plain). p.moment) (plain_after_all-append plain (done_in talk) (command ∷ []))
+            ∙ ap (λ (m : ℕ). moment_after m command) so.moment ∙ sym moment;
+        numbers = numbered_by (length so.standing.log + length turn.changes) (length standing.0.log) (Some talk.first) new.facts.numbers (sym len)
+            (numbered_then (length so.standing.log) (length turn.changes) talk.first old.facts.numbers new.facts.numbers so.numbers turn.did.numbers);
+        drawn = omega (arith, so.drawn, turn.did.drawn, len);
+        made = omega (arith, so.made, turn.did.made, len, files);
+        holds = turn_holds from course ordered left talk old new command spoilt (Ok reply) talking hand same turn;
+      }
+
+  -- a command was refused, and changed nothing
+  pub refused_tells : (turn : Turns [] (plain_of talk) command old.facts new.facts spoilt old.store new.store old.host new.host (Err fault.Memory))
+      → new.moment ≡ old.moment
+      → IsTalking from course ordered left talk new
+  refused_tells turn moment =
+      let so = talking.0 in
+      let plain = talk.opening in
+      let kept = turn.did.refused refl unspoilt in
+      let standing = refused_one plain (done_in talk) course.synced ordered old.facts new.facts so.base old.store new.store old.host.turn new.host.turn so.standing same turn.did.others.images.later kept in
+      let len : length standing.0.log ≡ length so.standing.log = ap (λ (l : List Change). length l) standing.1 in (
+        record {
+          is_talk = so.is_talk;
+          says = quiet old.host new.host new.host.turn turn.did.others.images.later (omega arith) turn.did.silent ∙ so.says;
+          stands = turn.did.stands unspoilt;
+          sound = turn.did.sound so.sound;
+          base = so.base;
+          opening = so.opening;
+          standing = standing.0;
+          moment = so.moment ∙ sym moment;
+          numbers = numbered_by (length so.standing.log + 0) (length standing.0.log) (Some talk.first) new.facts.numbers (omega (arith, len))
+              (numbered_then (length so.standing.log) 0 talk.first old.facts.numbers new.facts.numbers so.numbers kept.numbers.numbers);
+          drawn = omega (arith, so.drawn, kept.numbers.drawn, len);
+          made = omega (arith, so.made, kept.numbers.made, len);
+          holds = turn_holds from course ordered left talk old new command spoilt (Err fault.Memory) talking hand same turn;
+        },
+        talking.1,
+      )
+
+-- a call that leaves every file leaves those of a store
+pub leaves_all : (a b : HostState) (owns : FileName → Bool) (which : Bool) → SameFiles a.files b.files → Moves a b SameFiles → Leaves owns which a b
+leaves_all a b owns which files moves = record {
+  files = λ name is. files name;
+  images = weaker a b SameFiles (SameWhere owns which) moves (λ d m left same name is. same name);
+}
+
+module _ (from : HostState) (course : Course) (ordered : Bool) (left : List (List ℕ)) (talk : Talk) (bytes : List ℕ) (old new : View)
+    (hand : IsInHand from course ordered left talk bytes old)
+    (same : new.facts ≡ old.facts)
+    (carries : Carries old.host.turn new.host.turn old.store new.store) where
+  back : (t : ℕ) (key : List ℕ) (r : Reading) (mark : ℕ) → t ≤ old.host.turn → t ≤ new.host.turn → new.store.may t key r mark → old.store.may t key r mark
+  back t key r mark early to may =
+      ⊎_elim (λ lt. carries.past t key r mark lt may)
+      (λ ge. let at : t ≡ old.host.turn = omega arith in subst (λ (x : ℕ). old.store.may x key r mark) (sym at) (carries.since t key r mark ge to may))
+      (cases_lt t old.host.turn)
+
+  back_whole : (t : ℕ) (c : Content) (mark : ℕ) → t ≤ old.host.turn → t ≤ new.host.turn → new.store.whole t c mark → old.store.whole t c mark
+  back_whole t c mark early to may =
+      ⊎_elim (λ lt. carries.past_whole t c mark lt may)
+      (λ ge. let at : t ≡ old.host.turn = omega arith in subst (λ (x : ℕ). old.store.whole x c mark) (sym at) (carries.since_whole t c mark ge to may))
+      (cases_lt t old.host.turn)
+
+  more : (ys : List Change) × IsLog talk.opening (done_in talk ++ hand_of (is_over talk) left) (hand.standing.log ++ ys)
+  more = log_on talk.opening (done_in talk) (hand_of (is_over talk) left) hand.standing.log hand.standing.is_log
+
+  -- with the answer said, everything fits the talk with it
+  tells_since : (t : ℕ) (said : List ℕ) → old.host.turn ≤ t → t ≤ new.host.turn → Some said ≡ and_then_said (old.host.said old.host.turn) bytes → TellsAt course ordered new.store t said
+  tells_since t said late to is = record {
+    talk = talk;
+    left = left;
+    is_talk = hand.is_talk;
+    says = is ∙ hand.says;
+    fits = λ key r mark may. to_prefix course.synced talk.opening (done_in talk) (hand_of (is_over talk) left) (hand.standing.log ++ more.0) hand.base key r mark hand.opening more.1
+        (fit_more (promised_of course.synced talk.opening (done_in talk)) hand.standing.log more.0 hand.base key r mark (hand.standing.each key r mark (carries.since t key r mark late to may)));
+    cut = λ orderly c mark may. to_cut course.synced talk.opening (done_in talk) (hand_of (is_over talk) left) (hand.standing.log ++ more.0) hand.base c mark hand.opening more.1
+        (fit_all_more (promised_of course.synced talk.opening (done_in talk)) hand.standing.log more.0 hand.base c mark (hand.standing.whole orderly c mark (carries.since_whole t c mark late to may)));
+  }
+
+  -- what was said is what it was, or this
+  said_holds : (now : Option (List ℕ)) → SameFiles old.host.files new.host.files → Moves old.host new.host SameFiles → GoesOn old.host.turn new.host.turn old.host.said new.host.said now
+      → ((t : ℕ) (said : List ℕ) → old.host.turn < t → t ≤ new.host.turn → now ≡ Some said → TellsAt course ordered new.store t said)
+      → HoldsSince from course ordered new
+  said_holds now files moves goes tells = record {
+    others = subst (λ (f : StoreFacts). Leaves f.owns false from new.host) (sym same) (leaves_then old.facts.owns false from old.host new.host hand.holds.others (leaves_all old.host new.host old.facts.owns false files moves));
+    past = λ t early. goes.stays t (omega (arith, early, hand.holds.others.images.later)) ∙ hand.holds.past t early;
+    each = λ t said since to is.
+        ⊎_elim
+        (λ late. tells t said late to (sym (goes.since t late to) ∙ is))
+        (λ early. tells_still course ordered old.store new.store t said (λ key r mark may. back t key r mark early to may) (λ c mark may. back_whole t c mark early to may)
+        (hand.holds.each t said since early (sym (goes.stays t early) ∙ is)))
+        (cases_lt old.host.turn t);
+    opens = λ t since to.
+        ⊎_elim
+        (λ early. carries.opened t early (hand.holds.opens t since (omega (arith, early))))
+        (λ late. carries.opens t late to (hand.holds.opens old.host.turn hand.holds.others.images.later (omega arith)))
+        (cases_lt t old.host.turn);
+  }
+
+  -- the answer was said
+  pub said_tells : Said bytes old.host new.host (Ok tt) → new.moment ≡ old.moment → IsTelling from course ordered left talk new (new.host.said new.host.turn)
+  said_tells said moment =
+      let at = carried talk.opening (done_in talk) course.synced ordered old.facts hand.base old.store new.store old.host.turn new.host.turn (omega (arith, said.ok.ok)) carries hand.standing in
+      let len : length at.0.log ≡ length hand.standing.log = ap (λ (l : List Change). length l) at.1 in
+      let Stands : StoreFacts → Type 0 = λ (f : StoreFacts). (next : Standing talk.opening (done_in talk) course.synced ordered f hand.base new.store new.host.turn) × (length next.log ≡ length hand.standing.log) in
+      let standing : Stands new.facts = subst Stands (sym same) (at.0, len) in
+      record {
+        is_talk = hand.is_talk;
+        says = said.ok.said.since new.host.turn said.ok.ok (omega arith) ∙ hand.says;
+        stands = carries.stands hand.stands;
+        sound = carries.sound hand.sound;
+        base = hand.base;
+        opening = hand.opening;
+        standing = standing.0;
+        moment = hand.moment ∙ sym moment;
+        numbers = numbered_by (length hand.standing.log) (length standing.0.log) (Some talk.first) new.facts.numbers (sym standing.1)
+            (subst (λ (f : StoreFacts). IsNumbered (length hand.standing.log) (Some talk.first) f.numbers) (sym same) hand.numbers);
+        drawn = omega (arith, hand.drawn, standing.1, ap_drawn);
+        made = omega (arith, hand.made, standing.1, ap_made);
+        holds = said_holds (and_then_said (old.host.said old.host.turn) bytes) said.files said.ok.images said.ok.said (λ t text late to is. tells_since t text (omega (arith, late)) to (sym is));
+      }
+    where
+      ap_drawn : new.facts.drawn ≡ old.facts.drawn
+      ap_drawn = ap (λ (f : StoreFacts). f.drawn) same
+
+      ap_made : new.facts.made ≡ old.facts.made
+      ap_made = ap (λ (f : StoreFacts). f.made) same
+
+  -- the answer couldn't be said
+  pub unsaid_holds : (fault : HostFault) → Said bytes old.host new.host (Err fault) → HoldsSince from course ordered new
+  unsaid_holds fault said = said_holds None said.files said.failed.images said.failed.said (λ t text late to is. absurd (nothing text is))
+    where
+      nothing : (l : List ℕ) → None ≡ Some l → ⊥
+      nothing l h = cc

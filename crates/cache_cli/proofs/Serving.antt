@@ -1,0 +1,425 @@
+-- The run of the whole program, by what the run over its store told.
+use Rattle.std.proofs.Common.{◌≡◌, ◌⊎◌, inl, inr, ⊎_elim, ℕ, ◌-◌, ◌^◌, ◌≤◌, ◌<◌, Bool, true, false, List, [], ◌∷◌, Option, Some, None, Result, Ok, Err, refl, sym, ◌∙◌, ap, subst, arith}
+use Rattle.std.specs.Prelude.{max}
+use Rattle.std.proofs.lemmas.Bool.{cases_lt}
+use Rattle.cache_model.specs.declared.entries.Entry.{Entry}
+use Rattle.cache_model.specs.declared.faults.Damage.{Damage}
+use Rattle.cache_model.specs.declared.faults.Spent.{Spent}
+use Rattle.cache_model.specs.declared.faults.Spent.TheVariants.{Files, Sequence}
+use Rattle.cache_model.specs.declared.files.FileName.{FileName}
+use Rattle.cache_model.specs.declared.replies.Status.{Status}
+use Rattle.cache_model.specs.declared.replies.Status.TheVariants as status
+use Rattle.cache_model.specs.declared.settings.Settings.{Settings}
+use Rattle.cache_model.specs.Settings.{default_settings}
+use Rattle.cache_model.specs.Files.{Image}
+use Rattle.cache_model.specs.Plain.{visible_at}
+use Rattle.cache_model.specs.Images.{IsCounted, IsMark, IsSound, HasEntry, SameRecords}
+use Rattle.cache_model.proofs.Existing.{mark_exists, mark_is_single}
+use Rattle.cache_disk.specs.State.{HostState, SameFiles, Stands}
+use Rattle.cache_disk.specs.Calls.{AllLeft, and_then_said}
+use Rattle.store_trait.specs.Meaning.{Reading, Row, Numbers, seen, StoreFacts, StoreState, read_in}
+use Rattle.store_trait.specs.Keeping.{Leaves, IsSettled}
+use Rattle.store_trait.specs.Calls.{IsReady}
+use Rattle.store_trait.proofs.Runs.{leaves_then}
+use Rattle.cache_script.specs.Damages.{damage_line}
+use Rattle.data_file.specs.declared.appender.Appender.{Appender}
+use Rattle.soft_index.specs.declared.log_store.LogStore.{LogStore}
+use Rattle.soft_index.specs.Index.{IsRead, IsStarted}
+use Rattle.soft_index.specs.Opening.{IsFirstDamageOf}
+use Rattle.soft_index.specs.Store.{HasReading, row_of, current_of, next_file, is_spent, owns_file}
+use Rattle.cache_session.specs.declared.session.Session.{Session}
+use Rattle.cache_session.specs.Turns.{store_of, moment_of, is_broken, IsFit}
+use Rattle.cache_cli.specs.Fitting.{entry_of_reading}
+use Rattle.cache_cli.specs.Talk.{Course, FitsTalk, HoldsAtTurn}
+use Rattle.cache_cli.specs.Run.{View, view, view_by, TellsAt, HoldsSince, EndsSaying, EndsAtSpent, EndsBy}
+use Rattle.cache_cli.specs.Ends.{EndsSpent, Ends, EndsRefused}
+use Rattle.cache_cli.specs.Opening.{Begins, Finished}
+use Rattle.cache_cli.specs.Serving.{course_of, IsStill, IsOpenedFrom, Serves, TellsDamage, HoldsFrom}
+use Rattle.cache_cli.proofs.Same.{same_then, same_back, records_same, mark_same, sound_same, next_sequence_same, next_file_same}
+use Rattle.cache_cli.proofs.Contents.{opening_of, entry_read, reading_exists}
+use Rattle.cache_cli.proofs.Running.{leaves_all}
+
+-- two steps that leave all files
+pub still_then : (a b c : HostState) → Stands a b → IsRead b c → IsRead a c
+still_then a b c stands read = record {
+  files = same_then a.files b.files c.files stands.files read.files;
+  images = record {
+    later = omega (arith, read.images.later, stands.turn);
+    past = λ t i early left. stands.past t i early (read.images.past t i (omega (arith, early, stands.turn)) left);
+    kept = λ t i early left. read.images.kept t i (omega (arith, early, stands.turn)) (stands.kept t i early left);
+    now = λ t i after before left.
+        let d = read.images.now t i (omega (arith, after, stands.turn)) before left in
+        (d.0, stands.past a.turn d.0 (omega arith) (subst (λ (n : ℕ). b.left n d.0) stands.turn d.1), d.2);
+  };
+  silent = record {
+    stays = λ t early. read.silent.stays t (omega (arith, early, stands.turn)) ∙ stands.said t early;
+    since = λ t after before. read.silent.since t (omega (arith, after, stands.turn)) before ∙ ap (λ (n : ℕ). b.said n) stands.turn ∙ stands.said a.turn (omega arith);
+  };
+}
+
+-- what was said is what was said before
+pub read_said : (a b : HostState) → IsRead a b → b.said b.turn ≡ a.said a.turn
+read_said a b read = ⊎_elim (λ later. read.silent.since b.turn later (omega arith)) (λ early. let same : b.turn ≡ a.turn = omega (arith, early, read.images.later) in ap (λ (t : ℕ). b.said t) same ∙ read.silent.stays a.turn (omega arith)) (cases_lt a.turn b.turn)
+
+-- an image before anything is said
+untouched_at : (from : HostState) (course : Course) (said : Option (List ℕ)) (before image : Image)
+    → said ≡ from.said from.turn → from.left from.turn before → SameFiles before image → IsSound image → HoldsAtTurn from course said image
+untouched_at from course None before image silent left same sound = sound
+untouched_at from course (Some said) before image silent left same sound = (sound, inl (record { silent = silent; before = before; left = left; same = records_same before image same }))
+
+-- it holds up to the turn at which the store was opened
+opened_at : (from mid : HostState) (course : Course) → IsRead from mid → AllLeft from (λ image. IsSound image) → (t : ℕ) (image : Image) (said : Option (List ℕ))
+    → from.turn ≤ t → t ≤ mid.turn → said ≡ mid.said t → mid.left t image → HoldsAtTurn from course said image
+opened_at from mid course read sound t image said after before is left =
+    ⊎_elim
+    (λ later.
+    let d = read.images.now t image later before left in
+    untouched_at from course said d.0 image (is ∙ read.silent.since t later before) d.1 d.2 (sound_same d.0 image d.2 (sound d.0 d.1)))
+    (λ early.
+    let same : t ≡ from.turn = omega (arith, early, after) in
+    let was : from.left from.turn image = subst (λ (n : ℕ). from.left n image) same (read.images.past t image early left) in
+    untouched_at from course said image image (is ∙ read.silent.stays t early ∙ ap (λ (n : ℕ). from.said n) same) was (λ name. refl) (sound image was))
+    (cases_lt from.turn t)
+
+-- a run that read the files and did no more
+pub read_holds : (from mid : HostState) (course : Course) → IsRead from mid → HoldsFrom from mid course
+read_holds from mid course read = λ sound. record {
+  later = read.images.later;
+  each = λ t image after before left. opened_at from mid course read sound t image (mid.said t) after before refl left;
+}
+
+-- an image fits the talk that was said by then
+image_fits : (course : Course) (ordered : Bool) (store : StoreState) (t : ℕ) (said : List ℕ) (image : Image)
+    → ((key : List ℕ) (r : Reading) (mark : ℕ) → HasReading (IsCounted image) key r → IsMark image mark → store.may t key r mark)
+    → TellsAt course ordered store t said → FitsTalk course said image
+image_fits course ordered store t said image may tells = record {
+  talk = tells.talk;
+  left = tells.left;
+  is_talk = tells.is_talk;
+  says = tells.says;
+  fits = λ key.
+      let read = reading_exists image key in
+      let mark = mark_exists image in
+      let prefix = tells.fits key read.0 mark.0 (may key read.0 mark.0 read.1 mark.1) in
+      record {
+        entry = entry_of_reading read.0;
+        read = entry_read image key read.0 read.1;
+        count = prefix.count;
+        holds = prefix.holds;
+        within = prefix.within;
+        reads = λ other moment marked late. seen_is moment read.0 ∙ prefix.reads moment (omega (arith, late, mark_is_single image mark.0 other mark.1 marked));
+      };
+}
+  where
+    seen_is : (m : ℕ) (r : Reading) → visible_at m (entry_of_reading r) ≡ seen m r
+    seen_is m None = refl
+    seen_is m (Some entry) = refl
+
+-- it holds at every turn of the whole run
+pub run_holds : (from mid : HostState) (course : Course) (now : View)
+    → IsRead from mid
+    → ((t : ℕ) (image : Image) (key : List ℕ) (r : Reading) (mark : ℕ) → now.host.left t image → HasReading (IsCounted image) key r → IsMark image mark → now.store.may t key r mark)
+    → ((t : ℕ) (image : Image) → now.store.opens t → now.host.left t image → IsSound image)
+    → HoldsSince mid course true now
+    → HoldsFrom from now.host course
+run_holds from mid course now read may opens holds = λ sound. record {
+  later = omega (arith, read.images.later, holds.others.images.later);
+  each = λ t image after before left.
+      ⊎_elim
+      (λ later. at_talk t image (now.host.said t) later before left refl)
+      (λ early. opened_at from mid course read sound t image (now.host.said t) after early (holds.past t early) (holds.others.images.past t image early left))
+      (cases_lt mid.turn t);
+}
+  where
+    at_talk : (t : ℕ) (image : Image) (said : Option (List ℕ)) → mid.turn < t → t ≤ now.host.turn → now.host.left t image → now.host.said t ≡ said → HoldsAtTurn from course said image
+    at_talk t image None later before left is = opens t image (holds.opens t (omega (arith, later)) before) left
+    at_talk t image (Some said) later before left is = (
+      opens t image (holds.opens t (omega (arith, later)) before) left,
+      inr (image_fits course true now.store t said image (λ key r mark. may t image key r mark left) (holds.each t said later before is)),
+    )
+
+-- how the run ends
+
+-- a number that is at its end
+spent_by : (course : Course) (now : View) → ((s : Spent) → now.store.spent s → (s ≡ Sequence (2 ^ 62)) ⊎ (s ≡ Files (2 ^ 32 - 1))) → EndsAtSpent course now → EndsSpent course now.host
+spent_by course now is spent = record {
+  talk = spent.talk;
+  left = spent.left;
+  says = spent.says;
+  going = spent.going;
+  log = spent.log;
+  is_log = spent.is_log;
+  spent = ⊎_elim (λ sequence. inl (spent.sequence (2 ^ 62) sequence)) (λ files. inr (spent.files (2 ^ 32 - 1) files)) (is spent.number spent.spent);
+}
+
+by_status : (course : Course) (now : View) (ended : Status) → ((s : Spent) → now.store.spent s → (s ≡ Sequence (2 ^ 62)) ⊎ (s ≡ Files (2 ^ 32 - 1))) → EndsBy ended course now → Ends ended course now.host
+by_status course now status.Done is ends = absurd ends
+by_status course now status.Usage is ends = absurd ends
+by_status course now status.Settings is ends = absurd ends
+by_status course now status.Damaged is ends = absurd ends
+by_status course now status.DiskFailed is ends = inr ends
+by_status course now status.ScriptFailed is ends = ends
+by_status course now status.SayFailed is ends = inr ends
+by_status course now status.NoMemory is ends = inr ends
+by_status course now status.Spent is ends = spent_by course now is ends
+by_status course now status.LinesSpent is ends = ends
+
+-- a run that ended while its first line was said
+by_saying : (course : Course) (mid to : HostState) (ended : Status) → mid.said mid.turn ≡ course.said → EndsSaying ended mid to → Ends ended course to
+by_saying course mid to ended silent = ⊎_elim
+    (λ lost. subst (λ (s : Status). Ends s course to) (sym lost.0) (inl (record { turn = mid.turn; said = lost.1.said ∙ silent; before = lost.1.later; lost = lost.1.lost })))
+    (λ memory. subst (λ (s : Status). Ends s course to) (sym memory.0) (inl (memory.1 ∙ silent)))
+
+pub finished_whole : (course : Course) (ordered : Bool) (mid : HostState) (now : View) → Finished mid course ordered now (Ok tt) → Ends status.Done course now.host
+finished_whole course ordered mid now finished = finished.whole
+
+pub finished_early : (course : Course) (ordered : Bool) (mid : HostState) (now : View) (ended : Status) → mid.said mid.turn ≡ course.said
+    → ((s : Spent) → now.store.spent s → (s ≡ Sequence (2 ^ 62)) ⊎ (s ≡ Files (2 ^ 32 - 1)))
+    → Finished mid course ordered now (Err ended) → Ends ended course now.host
+finished_early course ordered mid now ended silent is finished = ⊎_elim (λ saying. by_saying course mid now.host ended silent saying) (λ ends. by_status course now ended is ends) finished.ends
+
+-- other files than the store's were left alone through the whole run
+pub others_all : (from mid to : HostState) (owns : FileName → Bool) → IsRead from mid → Leaves owns false mid to → Leaves owns false from to
+others_all from mid to owns read leaves = leaves_then owns false from mid to (leaves_all from mid owns false read.files read.images) leaves
+
+-- how it begins
+
+-- a key reads the same where the same records count
+reading_same : (a b : Image) → SameRecords a b → (key : List ℕ) (r : Reading) → HasReading (IsCounted b) key r → HasReading (IsCounted a) key r
+reading_same a b same key r = ⊎_elim
+    (λ none. inl (λ n at item counted of_key. none.0 n at item ((same n at item).1 counted) of_key, none.1))
+    (λ some. inr (
+      some.0,
+      some.1,
+      some.2,
+      record {
+        counted = (same some.0 some.1 some.2).0 some.3.counted;
+        of_key = some.3.of_key;
+        newest = λ n at other counted of_key. some.3.newest n at other ((same n at other).1 counted) of_key;
+      },
+      some.4,
+    ))
+
+-- a store was opened from these files, where it was from the same ones
+pub started_same : (a b : Image) (settings : Settings) (facts : StoreFacts) (state : StoreState) (mark : ℕ) → SameFiles a b → IsStarted b settings facts state mark → IsStarted a settings facts state mark
+started_same a b settings facts state mark same started =
+    let records = records_same a b same in
+    record {
+      stands = started.stands;
+      content = λ key. reading_same a b records key (read_in state.content key) (started.content key);
+      mark_is = mark_same a b records mark started.mark_is;
+      latest = started.latest;
+      undamaged = sound_same b a (same_back a b same) started.undamaged;
+      numbers = (started.numbers.0, started.numbers.1, next_sequence_same a b records started.numbers.0.sequence started.numbers.2, next_file_same a b same started.numbers.0.file started.numbers.3);
+      bits = started.bits;
+      firm = started.firm;
+      parts = started.parts;
+    }
+
+pub begins : (from mid : HostState) (given moment mark : ℕ) (lines : List (List ℕ)) (facts : StoreFacts) (state : StoreState)
+    → (opened : IsOpenedFrom from mid facts state mark)
+    → facts.drawn ≤ opened.started.numbers.0.sequence → facts.made ≤ opened.started.numbers.0.file
+    → state.sound → facts.ordered ≡ true
+    → moment ≡ max given mark
+    → Begins (course_of from given lines) true (record { facts = facts; store = state; host = mid; moment = moment })
+begins from mid given moment mark lines facts state opened drawn made sound ordered is =
+    let started = opened.started in
+    let plain = opening_of state.content moment in
+    record {
+      opening = plain.0;
+      first = started.numbers.0;
+      is_talk = record {
+        opens = record {
+          entries = λ key. subst (λ (e : Option Entry). HasEntry from.files key e) (plain.1 key) (entry_read from.files key (read_in state.content key) (started.content key));
+          mark = mark;
+          marked = started.mark_is;
+          moment = plain.2 ∙ is;
+        };
+        first = started.numbers.2;
+        file = started.numbers.3;
+        split = refl;
+        answers = tt;
+        whole = λ ended. absurd (false_true ended);
+      };
+      silent = read_said from mid opened.read;
+      stands = started.stands;
+      sound = sound;
+      is_opening = plain.1;
+      settled = opened.settled.each;
+      moment = plain.2;
+      numbers = started.numbers.1;
+      drawn = drawn;
+      made = made;
+      firm = started.firm;
+      is_ordered = ordered;
+    }
+  where
+    false_true : false ≡ true → ⊥
+    false_true h = cc
+
+-- no number of a store that was opened is above the next ones
+pub sequence_le : (n m : Numbers) → Some n ≡ Some m → n.sequence ≤ m.sequence
+sequence_le n m same = omega (arith, ap (λ (x : Numbers). x.sequence) (same_some n m same))
+  where
+    same_some : (x y : Numbers) → Some x ≡ Some y → x ≡ y
+    same_some x y h = cc
+
+abbrev first_current : List Row → Option ℕ
+first_current [] = None
+first_current (row ∷ rows) = row.current
+
+some_none : (n : ℕ) → Some n ≡ None → ⊥
+some_none n h = cc
+
+pub file_le : (log : Option Appender) (number : ℕ) (n m : Numbers) → row_of (current_of log number) ≡ row_of None → n.file ≡ number → Some n ≡ Some m → next_file log number ≤ m.file
+file_le None number n m parts is same = omega (arith, ap (λ (x : Numbers). x.file) (same_some n m same), is)
+  where
+    same_some : (x y : Numbers) → Some x ≡ Some y → x ≡ y
+    same_some x y h = cc
+file_le (Some log) number n m parts is same = absurd (some_none number (ap first_current parts))
+
+-- a directory that is damaged isn't one that a run may begin on
+pub never_damaged : (from : HostState) (to : HostState) (course : Course) (damage : Damage) → from.left from.turn from.files → IsFirstDamageOf from.files damage → HoldsFrom from to course
+never_damaged from to course damage reads first = λ sound. absurd (no_damage (sound from.files reads damage.file.id first.1.bytes first.1.there) first.1.damage)
+  where
+    no_damage : {A : Type 0} {found : Option A} {x : A} → found ≡ None → found ≡ Some x → ⊥
+    no_damage none some = let both : None ≡ Some _ = sym none ∙ some in cc
+
+-- a damage was told, or couldn't be
+pub told_damage : (from mid to : HostState) (course : Course) (damage : Damage) (ended : Status)
+    → course.files ≡ from.files → course.said ≡ from.said from.turn
+    → IsRead from mid → IsStill mid to
+    → IsFirstDamageOf from.files damage → TellsDamage ended damage mid to → Ends ended course to
+told_damage from mid to course damage status.Damaged files said read still first tells = record {
+  damage = damage;
+  first = subst (λ (i : Image). IsFirstDamageOf i damage) (sym files) first;
+  files = subst (λ (i : Image). SameFiles i to.files) (sym files) (same_then from.files mid.files to.files read.files still.files);
+  said = tells ∙ ap (λ (s : Option (List ℕ)). and_then_said s (damage_line damage)) (read_said from mid read ∙ sym said);
+}
+told_damage from mid to course damage status.SayFailed files said read still first tells = inl (record { turn = mid.turn; said = tells.said ∙ read_said from mid read ∙ sym said; before = tells.later; lost = tells.lost })
+told_damage from mid to course damage status.NoMemory files said read still first tells = inl (tells ∙ read_said from mid read ∙ sym said)
+told_damage from mid to course damage status.Done files said read still first tells = absurd tells
+told_damage from mid to course damage status.Usage files said read still first tells = absurd tells
+told_damage from mid to course damage status.Settings files said read still first tells = absurd tells
+told_damage from mid to course damage status.DiskFailed files said read still first tells = absurd tells
+told_damage from mid to course damage status.ScriptFailed files said read still first tells = absurd tells
+told_damage from mid to course damage status.Spent files said read still first tells = absurd tells
+told_damage from mid to course damage status.LinesSpent files said read still first tells = absurd tells
+
+pub refused_damage : (mid to : HostState) (damage : Damage) (ended : Status) → TellsDamage ended damage mid to → EndsRefused ended
+refused_damage mid to damage status.Damaged tells = inl refl
+refused_damage mid to damage status.SayFailed tells = inr (inr (inl refl))
+refused_damage mid to damage status.NoMemory tells = inr (inr (inr refl))
+refused_damage mid to damage status.Done tells = absurd tells
+refused_damage mid to damage status.Usage tells = absurd tells
+refused_damage mid to damage status.Settings tells = absurd tells
+refused_damage mid to damage status.DiskFailed tells = absurd tells
+refused_damage mid to damage status.ScriptFailed tells = absurd tells
+refused_damage mid to damage status.Spent tells = absurd tells
+refused_damage mid to damage status.LinesSpent tells = absurd tells
+
+-- a number of the store is spent at its end alone
+pub index_spent : (store : LogStore) (s : Spent) → is_spent store s → (s ≡ Sequence (2 ^ 62)) ⊎ (s ≡ Files (2 ^ 32 - 1))
+index_spent store s = ⊎_elim (λ sequence. inl (sequence.0 ∙ ap (λ (n : ℕ). Sequence n) sequence.1)) (λ files. inr files.0)
+
+-- a session over a store that was opened
+
+pub fit_session : {S : Type 0} (facts : S → StoreFacts) (session : Session S) (store : S) (moment : ℕ) → store_of session ≡ store → moment_of session ≡ moment
+    → is_broken session ≡ false → IsReady (facts store) moment → IsFit (facts (store_of session)) (is_broken session) (moment_of session)
+fit_session {S} facts session store moment same at whole ready = record {
+  whole = whole;
+  ready = subst (λ (s : S). IsReady (facts s) (moment_of session)) (sym same) (subst (λ (m : ℕ). IsReady (facts store) m) (sym at) ready);
+}
+
+-- the later one of two moments
+pub later_of : (m given mark : ℕ) → m ≡ max given mark → mark ≤ m
+later_of m given mark is = omega (arith, is)
+
+pub later_fits : (m given mark : ℕ) → m ≡ max given mark → given < 2 ^ 61 → mark < 2 ^ 61 → m < 2 ^ 61
+later_fits m given mark is one other = omega (arith, is, one, other)
+
+pub stands_session : {S : Type 0} (means : S → HostState → StoreState) (session : Session S) (store : S) → store_of session ≡ store → (host : HostState) → (means store host).stands → (means (store_of session) host).stands
+stands_session {S} means session store same host = subst (λ (s : S). (means s host).stands) (sym same)
+
+pub begins_session : {S : Type 0} (facts : S → StoreFacts) (means : S → HostState → StoreState) (session : Session S) (store : S) (moment : ℕ) (ordered : Bool) → store_of session ≡ store → moment_of session ≡ moment
+    → (course : Course) (host : HostState) → Begins course ordered (view (facts store) (means store host) host moment) → Begins course ordered (view_by facts means session host)
+begins_session {S} facts means session store moment ordered same at course host begun =
+    subst (λ (m : ℕ). Begins course ordered (view (facts (store_of session)) (means (store_of session) host) host m)) (sym at)
+    (subst (λ (s : S). Begins course ordered (view (facts s) (means s host) host moment)) (sym same) begun)
+
+-- a run that was answered to its end, or ended
+pub serves_whole : (from mid : HostState) (course : Course) (now : View) (result : Result Unit Status)
+    → Finished mid course true now result → result ≡ Ok tt
+    → now.facts.owns ≡ owns_file
+    → IsRead from mid
+    → ((t : ℕ) (image : Image) (key : List ℕ) (r : Reading) (mark : ℕ) → now.host.left t image → HasReading (IsCounted image) key r → IsMark image mark → now.store.may t key r mark)
+    → ((t : ℕ) (image : Image) → now.store.opens t → now.host.left t image → IsSound image)
+    → Serves status.Done from now.host course
+serves_whole from mid course now result finished is owns read may opens = record {
+  ends = finished_whole course true mid now (subst (λ (r : Result Unit Status). Finished mid course true now r) is finished);
+  others = subst (λ (o : FileName → Bool). Leaves o false from now.host) owns (others_all from mid now.host now.facts.owns read finished.holds.others);
+  holds = run_holds from mid course now read may opens finished.holds;
+}
+
+pub serves_early : (from mid : HostState) (course : Course) (now : View) (ended : Status) (result : Result Unit Status)
+    → Finished mid course true now result → result ≡ Err ended
+    → now.facts.owns ≡ owns_file
+    → IsRead from mid → course.said ≡ from.said from.turn
+    → ((s : Spent) → now.store.spent s → (s ≡ Sequence (2 ^ 62)) ⊎ (s ≡ Files (2 ^ 32 - 1)))
+    → ((t : ℕ) (image : Image) (key : List ℕ) (r : Reading) (mark : ℕ) → now.host.left t image → HasReading (IsCounted image) key r → IsMark image mark → now.store.may t key r mark)
+    → ((t : ℕ) (image : Image) → now.store.opens t → now.host.left t image → IsSound image)
+    → Serves ended from now.host course
+serves_early from mid course now ended result finished same owns read said is may opens = record {
+  ends = finished_early course true mid now ended (read_said from mid read ∙ sym said) is (subst (λ (r : Result Unit Status). Finished mid course true now r) same finished);
+  others = subst (λ (o : FileName → Bool). Leaves o false from now.host) owns (others_all from mid now.host now.facts.owns read finished.holds.others);
+  holds = run_holds from mid course now read may opens finished.holds;
+}
+
+-- a run that read the files and did no more
+pub serves_read : (from mid : HostState) (course : Course) (ended : Status) → course.said ≡ from.said from.turn → IsRead from mid
+    → (mid.said mid.turn ≡ course.said → Ends ended course mid) → Serves ended from mid course
+serves_read from mid course ended said read ends = record {
+  ends = ends (read_said from mid read ∙ sym said);
+  others = leaves_all from mid owns_file false read.files read.images;
+  holds = read_holds from mid course read;
+}
+
+-- nothing was done
+pub stands_read : (a b : HostState) → Stands a b → IsRead a b
+stands_read a b stands = record {
+  files = stands.files;
+  images = record {
+    later = omega (arith, stands.turn);
+    past = stands.past;
+    kept = stands.kept;
+    now = λ t i after before left. absurd (omega (arith, after, before, stands.turn));
+  };
+  silent = record { stays = stands.said; since = λ t after before. absurd (omega (arith, after, before, stands.turn)) };
+}
+
+-- a directory that is damaged
+pub serves_damage : (from mid to : HostState) (course : Course) (damage : Damage) (ended : Status)
+    → course.files ≡ from.files → course.said ≡ from.said from.turn
+    → from.left from.turn from.files
+    → IsRead from mid → IsStill mid to
+    → IsFirstDamageOf from.files damage → TellsDamage ended damage mid to → Serves ended from to course
+serves_damage from mid to course damage ended files said reads read still first tells = record {
+  ends = told_damage from mid to course damage ended files said read still first tells;
+  others = others_all from mid to owns_file read (leaves_all mid to owns_file false still.files still.images);
+  holds = never_damaged from to course damage reads first;
+}
+
+-- the files as they read are one of the images, at another host that stands so
+pub reads_before : (a b : HostState) → Stands a b → b.left b.turn b.files → (i : Image) × a.left a.turn i × SameFiles a.files i
+reads_before a b stands left = (b.files, stands.past a.turn b.files (omega arith) (subst (λ (n : ℕ). b.left n b.files) stands.turn left), stands.files)
+
+-- a call that changes nothing leaves the files
+pub still_files : (a b : HostState) → Stands a b → SameFiles a.files b.files
+still_files a b stands = stands.files
+
+-- a store was opened by the default settings, from the same files
+pub started_by : (a b : Image) (settings : Settings) (facts : StoreFacts) (state : StoreState) (mark : ℕ) → settings ≡ default_settings → SameFiles a b → IsStarted b settings facts state mark → IsStarted a default_settings facts state mark
+started_by a b settings facts state mark defaults same started = started_same a b default_settings facts state mark same (subst (λ (s : Settings). IsStarted b s facts state mark) defaults started)
+
+pub opened_by : (from mid : HostState) (facts : StoreFacts) (state : StoreState) (mark : ℕ) → IsRead from mid → IsStarted from.files default_settings facts state mark → IsSettled facts state mid.turn → IsOpenedFrom from mid facts state mark
+opened_by from mid facts state mark read started settled = record { read = read; started = started; settled = settled }
