@@ -2,8 +2,6 @@
 
 import random
 import signal
-import subprocess
-import tempfile
 import time
 
 import support
@@ -34,32 +32,8 @@ def script_of(puts):
 
 def killed_after(folder, script, answers, wait):
     """Runs a script, and kills the run so many seconds after so many answers. It gives what was said."""
-    with tempfile.TemporaryFile() as lines:
-        lines.write(script)
-        lines.seek(0)
-        process = subprocess.Popen(
-            [support.PROGRAM, folder, *AT],
-            stdin=lines,
-            stdout=subprocess.PIPE,
-            stderr=subprocess.PIPE,
-            bufsize=0,
-        )
-    said = b""
-    while said.count(b"\n") < 1 + answers:
-        more = process.stdout.read(65536)
-        if not more:
-            raise Failed(f"the run ended by itself after {said!r}")
-        said += more
-    end = time.monotonic() + wait
-    while time.monotonic() < end:
-        pass
-    process.kill()
-    while more := process.stdout.read(65536):
-        said += more
-    equal(process.wait(support.LIMIT), -signal.SIGKILL, "the status")
-    equal(process.stderr.read(), b"", "standard error")
-    for stream in (process.stdout, process.stderr):
-        stream.close()
+    status, said = support.run_and_kill([folder, *AT], script, answers, wait)
+    equal(status, -signal.SIGKILL, "the status")
     return said
 
 

@@ -7,6 +7,7 @@ import pathlib
 import shutil
 import subprocess
 import tempfile
+import time
 
 TOP = pathlib.Path(__file__).resolve().parent.parent
 
@@ -24,8 +25,12 @@ FIRST_FILE = "s0-0000000001.log"
 
 NEVER = 2**64 - 1
 
-Frame = collections.namedtuple("Frame", "puts moment")
-Put = collections.namedtuple("Put", "sequence until key value")
+# A record whose value is None removes its key, and has no expiry.
+Frame = collections.namedtuple("Frame", "records moment")
+Record = collections.namedtuple("Record", "sequence until key value")
+
+# What the seed of a test with drawn scripts begins with. One run with another number tries other scripts.
+FIRST_SEED = 1
 
 
 class Failed(Exception):
@@ -89,6 +94,10 @@ def check_names(folder, names):
     equal(names_in(folder), sorted(map(os.fsencode, names)), "the names in the folder")
 
 
+def log_name(number):
+    return f"s0-{number:010}.log"
+
+
 def spelled_put(sequence, key, value, until=NEVER):
     """A put as it stands in a data file."""
     numbers = b"\x01" + sequence.to_bytes(8, "big") + until.to_bytes(8, "big")
@@ -118,15 +127,23 @@ class Reader:
     def number(self, count):
         return int.from_bytes(self.bytes(count), "big")
 
+    def put(self):
+        sequence, until = self.number(8), self.number(8)
+        key_length, value_length = self.number(2), self.number(4)
+        key, value = self.bytes(key_length), self.bytes(value_length)
+        return Record(sequence, until, key, value)
+
+    def removal(self):
+        sequence, key_length = self.number(8), self.number(2)
+        return Record(sequence, None, self.bytes(key_length), None)
+
     def frame(self):
-        puts = []
+        records = []
         while tag := self.number(1):
-            equal(tag, 1, f"the first byte of the item before {self.at}")
-            sequence, until = self.number(8), self.number(8)
-            key_length, value_length = self.number(2), self.number(4)
-            key, value = self.bytes(key_length), self.bytes(value_length)
-            puts.append(Put(sequence, until, key, value))
-        return Frame(puts, self.number(8))
+            if tag > 2:
+                raise Failed(f"the byte {tag} begins the item before {self.at}")
+            records.append(self.put() if tag == 1 else self.removal())
+        return Frame(records, self.number(8))
 
 
 def counted_frames(path):
@@ -147,7 +164,52 @@ def counted_frames(path):
 def check_puts(path, puts, moment):
     """Asks for a file whose counted frames are one for each of these puts, numbered from 1."""
     wanted = [
-        Frame([Put(at, NEVER, key, value)], moment)
+        Frame([Record(at, NEVER, key, value)], moment)
         for at, (key, value) in enumerate(puts, start=1)
     ]
     equal(counted_frames(path), wanted, f"the counted frames of {path.name}")
+
+
+def held_in(folder):
+    """What a folder's data files say: the value and the expiry under each key, and the mark."""
+    newest, mark = {}, 0
+    for path in sorted(folder.glob("s0-*.log")):
+        for frame in counted_frames(path):
+            mark = max(mark, frame.moment)
+            for record in frame.records:
+                if record.key not in newest or newest[record.key].sequence <= record.sequence:
+                    newest[record.key] = record
+    held = {key: (it.value, it.until) for key, it in newest.items() if it.value is not None}
+    return held, mark
+
+
+def run_and_kill(arguments, script, answers, wait):
+    """Runs the program, and kills it so many seconds after so many answers. It gives the status and what was said.
+
+    A run that ends by itself before isn't killed.
+    """
+    with tempfile.TemporaryFile() as lines:
+        lines.write(script)
+        lines.seek(0)
+        process = subprocess.Popen(
+            [PROGRAM, *arguments],
+            stdin=lines,
+            stdout=subprocess.PIPE,
+            stderr=subprocess.PIPE,
+            bufsize=0,
+        )
+    said, more = b"", b"."
+    while more and said.count(b"\n") < 1 + answers:
+        more = process.stdout.read(65536)
+        said += more
+    end = time.monotonic() + wait
+    while time.monotonic() < end:
+        pass
+    process.kill()
+    while more := process.stdout.read(65536):
+        said += more
+    status = process.wait(LIMIT)
+    equal(process.stderr.read(), b"", "standard error")
+    for stream in (process.stdout, process.stderr):
+        stream.close()
+    return status, said

@@ -1,0 +1,80 @@
+"""Worked scripts whose every answer is known from elsewhere."""
+
+from support import DONE, check_words
+
+KEY, VALUE = b"a" * 1024, b"b" * 65536
+
+
+def check_answers(folder, moment, rows):
+    """Runs a script at a moment, and asks for the answer to each of its lines."""
+    script = b"".join(line + b"\n" for line, _ in rows)
+    said = [f"opened {moment}", *[answer for _, answer in rows], "stopped"]
+    check_words(["--at", str(moment)], folder, script, DONE, said)
+
+
+def test_lifespan(folder):
+    """An entry is visible before the moment at which it expires, and not from then on."""
+    check_answers(folder, 1000, [
+        (b"put k v ttl 10", "ok"),
+        (b"at 1009", "ok"),
+        (b"get k", "value v"),
+        (b"at 1010", "ok"),
+        (b"get k", "none"),
+    ])
+
+
+def test_moment_that_goes_back(folder):
+    """The moment never falls: an earlier one is refused with the present one."""
+    check_answers(folder, 3, [(b"at 9", "ok"), (b"at 5", "refused past 9"), (b"at 9", "ok")])
+
+
+def test_greatest_lengths(folder):
+    """The greatest key and value are taken, one byte more is refused, and a later run begins at the mark."""
+    check_answers(folder, 1000, [
+        (b"put " + KEY + b" " + VALUE, "ok"),
+        (b"put " + KEY + b"a x", "refused key 1025"),
+        (b"put x " + VALUE + b"b", "refused value 65537"),
+    ])
+    said = ["opened 1000", f"value {VALUE.decode()}", "stopped"]
+    check_words(["--at", "5"], folder, b"get " + KEY + b"\n", DONE, said)
+
+
+def test_each_refusal(folder):
+    """Each refusal is said where its limit is passed, and a refused line changes nothing."""
+    check_answers(folder, 1000, [
+        (b"put", "refused syntax"),
+        (b"get %.", "refused key 0"),
+        (b"put a b ttl 2305843009213693952", "refused ttl"),
+        (b"at 2305843009213693952", "refused syntax"),
+        (b"put a b ttl -7", "ok"),
+        (b"x" * 1048577, "refused long"),
+        (b"get a", "value b"),
+        (b"put a b ttl 0", "ok"),
+        (b"get a", "none"),
+    ])
+
+
+def test_each_command(folder):
+    """Each command is answered as by a plain map, with keys and values of any bytes."""
+    check_answers(folder, 1000, [
+        (b"putabsent a 1", "ok"),
+        (b"putabsent a 2", "kept"),
+        (b"replace a 3", "ok"),
+        (b"replace b 1", "none"),
+        (b"replaceif a 1 9", "differs"),
+        (b"replaceif a 3 4", "ok"),
+        (b"has a", "yes"),
+        (b"has b", "no"),
+        (b"removeif a 3", "differs"),
+        (b"removeif b 3", "none"),
+        (b"removeif a 4", "ok"),
+        (b"remove a", "none"),
+        (b"put x %00%20", "ok"),
+        (b"get x", "value %00%20"),
+        (b"put y %.", "ok"),
+        (b"get y", "value %."),
+        (b"keys", "keys x y"),
+        (b"size", "size 2"),
+        (b"clear", "cleared 2"),
+        (b"size", "size 0"),
+    ])
