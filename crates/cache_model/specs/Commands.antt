@@ -1,9 +1,9 @@
--- The limits of the numbers in a command.
+-- The limits of the numbers in a command, and which commands lines can ask for.
 use Rattle.std.specs.Prelude.{◌<◌, ◌^◌}
 use Rattle.cache_model.specs.declared.entries.Lifespan.{Lifespan}
 use Rattle.cache_model.specs.declared.entries.Lifespan.TheVariants.{Endless, Of}
 use Rattle.cache_model.specs.declared.commands.Command.{Command}
-use Rattle.cache_model.specs.declared.commands.Command.TheVariants.{At, Put, PutAbsent, Replace, ReplaceIf}
+use Rattle.cache_model.specs.declared.commands.Command.TheVariants.{At, Put, PutAbsent, Replace, ReplaceIf, Evict, CompactAll, CompactFile, Stats, Export}
 
 -- a lifespan is endless, or below 2^61
 abbrev pub IsLifespan : Lifespan → Type 0
@@ -18,3 +18,12 @@ IsCommand (PutAbsent key value lifespan) = IsLifespan lifespan
 IsCommand (Replace key value lifespan) = IsLifespan lifespan
 IsCommand (ReplaceIf key old value lifespan) = IsLifespan lifespan
 IsCommand command = Unit {0}
+
+-- the commands that lines can ask for
+abbrev pub HasLine : Command → Type 0
+HasLine (Evict key) = ⊥
+HasLine CompactAll = ⊥
+HasLine (CompactFile number) = ⊥
+HasLine Stats = ⊥
+HasLine Export = ⊥
+HasLine command = Unit {0}

@@ -1,6 +1,7 @@
 -- The lines of a script, and what each of them means: a command, or why it is refused.
 use Rattle.std.specs.Prelude.{◌++◌, ◌≡◌, ℕ, ◌+◌, ◌-◌, ◌/◌, ◌^◌, ◌==◌, ◌&&◌, false, ◌<◌, take, drop, List, [], ◌∷◌, length, Option, Some, None, option_map, option_and_then, if◌then◌else◌, nat_eq, nat_lt, nat_le, codes, sum_by}
 use Rattle.std.specs.List.{list_all, list_any, ends_with}
+use Rattle.std.specs.Map.{lookup}
 use Rattle.std.specs.Option.{option_or}
 use Rattle.std.specs.Char.{is_digit}
 use Rattle.std.specs.Str.{bytes_eq}
@@ -8,7 +9,9 @@ use Rattle.std.specs.Str.Parse.{digits_value}
 use Rattle.cache_model.specs.declared.entries.Lifespan.{Lifespan}
 use Rattle.cache_model.specs.declared.entries.Lifespan.TheVariants.{Endless, Of}
 use Rattle.cache_model.specs.declared.commands.Command.{Command}
-use Rattle.cache_model.specs.declared.commands.Command.TheVariants.{At, Put, PutAbsent, Replace, ReplaceIf, Get, Has, Remove, RemoveIf, Size, Keys, Clear, Evict, Stop, Halt}
+use Rattle.cache_model.specs.declared.commands.Command.TheVariants.{At, Put, PutAbsent, Replace, ReplaceIf, Get, Has, Remove, RemoveIf, Size, Keys, Clear, Step, Evict, Sync, Stop, Halt}
+use Rattle.cache_model.specs.declared.commands.StepKind.{StepKind}
+use Rattle.cache_model.specs.declared.commands.StepKind.TheVariants.{Rotate}
 use Rattle.cache_model.specs.Replies.{Refusal, long, syntax, key_length, value_length, ttl}
 use Rattle.cache_model.specs.Tokens.{token_value}
 
@@ -104,6 +107,16 @@ abbrev pub takes_exchange : (List ℕ → List ℕ → List ℕ → Lifespan →
 takes_exchange make [] = None
 takes_exchange make (key ∷ words) = option_and_then (λ k. takes_entry (make k) words) (token_value key)
 
+-- the steps that a line can ask for: each one's name
+abbrev pub step_rows : List (List ℕ × StepKind)
+step_rows = (codes "rotate", Rotate) ∷ []
+
+-- a step's name
+abbrev pub takes_step : Arguments
+takes_step [] = None
+takes_step (name ∷ []) = option_map Step (lookup (bytes_eq name) step_rows)
+takes_step (name ∷ more ∷ words) = None
+
 -- The commands that a line can ask for: each one's name, and the words behind it.
 abbrev pub command_rows : List (List ℕ × Arguments)
 command_rows =
@@ -119,6 +132,8 @@ command_rows =
     ∷ (codes "size", takes_nothing Size)
     ∷ (codes "keys", takes_nothing Keys)
     ∷ (codes "clear", takes_nothing Clear)
+    ∷ (codes "step", takes_step)
+    ∷ (codes "sync", takes_nothing Sync)
     ∷ (codes "stop", takes_nothing Stop)
     ∷ (codes "halt", takes_nothing Halt)
     ∷ []

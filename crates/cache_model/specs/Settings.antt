@@ -1,5 +1,5 @@
 -- The settings of a session.
-use Rattle.std.specs.Prelude.{ℕ, true, false, []}
+use Rattle.std.specs.Prelude.{◌≤◌, true, false, [], length}
 use Rattle.cache_model.specs.declared.settings.Settings.{Settings}
 use Rattle.cache_model.specs.declared.settings.Mode.TheVariants.{Through}
 use Rattle.cache_model.specs.declared.settings.Activation.TheVariants.{Keep}
@@ -21,3 +21,15 @@ default_settings = record {
   publish = [];
   activation = Keep;
 }
+
+-- The numbers of settings are in their ranges, and the prefix isn't longer than one may be.
+pub record AreInRange (settings : Settings) : Type 0 where
+  pub file_size : (4096 ≤ settings.file_size) × (settings.file_size ≤ 16777216)
+  pub compact_below : (1 ≤ settings.compact_below) × (settings.compact_below ≤ 99)
+  pub queue : (1 ≤ settings.queue) × (settings.queue ≤ 65536)
+  pub nodes : (8 ≤ settings.nodes) × (settings.nodes ≤ 65536)
+  pub hash_bits : settings.hash_bits ≤ 32
+  pub behind_limit : (1 ≤ settings.behind_limit) × (settings.behind_limit ≤ 65536)
+  pub max_entries : (1 ≤ settings.max_entries) × (settings.max_entries ≤ 1000000)
+  pub pump : settings.pump ≤ 1000
+  pub publish : length settings.publish ≤ 1024

@@ -3,7 +3,10 @@ use Rattle.std.specs.Prelude.{◌≡◌, ◌⊎◌, ℕ, Bool, true, false, IsTr
 use Rattle.cache_model.specs.declared.commands.Command.{Command}
 use Rattle.cache_model.specs.declared.commands.Command.TheVariants.{Size, Keys, Clear, Sync, CompactAll, Stats, Export, Stop}
 use Rattle.cache_model.specs.declared.replies.Reply.{Reply}
+use Rattle.cache_model.specs.declared.replies.Figures.{Figures}
+use Rattle.cache_model.specs.declared.replies.Turned.{Turned}
 use Rattle.cache_model.specs.declared.replies.Reply.TheVariants.{Stopped, Halted}
+use Rattle.cache_model.specs.declared.replies.Reply.TheVariants as reply
 use Rattle.cache_model.specs.Plain.{Plain, plain_after, plain_reply}
 use Rattle.cache_model.specs.Lines.{LineMeaning, asks, refuses, meaning_of}
 use Rattle.cache_model.specs.Replies.{Response, replies, refused, memory}
@@ -20,17 +23,22 @@ may_be_refused Export = false
 may_be_refused Stop = false
 may_be_refused command = true
 
--- the reply that the plain map gives, or any where it doesn't say
-abbrev pub IsReply : Option Reply → Response → Type 0
-IsReply None response = (reply : Reply) × (response ≡ replies reply)
-IsReply (Some reply) response = response ≡ replies reply
+-- The replies to commands of which the plain map says none: figures to `Stats`, and else whether something was done.
+abbrev pub MayReply : Command → Reply → Type 0
+MayReply Stats given = (figures : Figures) × (given ≡ reply.Stats figures)
+MayReply command given = (turned : Turned) × (given ≡ reply.Turned turned)
+
+-- the reply that the plain map gives, or one that the command may have where the plain map doesn't say
+abbrev pub IsReply : Command → Option Reply → Response → Type 0
+IsReply command None response = (reply : Reply) × MayReply command reply × (response ≡ replies reply)
+IsReply command (Some reply) response = response ≡ replies reply
 
 -- A line that is refused has that answer. A command has the plain map's reply, or is refused for want of memory where
 -- it may be.
 abbrev pub Answers : List ℕ → Plain → LineMeaning → Response → Type 0
 Answers publish plain (refuses refusal) response = response ≡ refused refusal
 Answers publish plain (asks command) response =
-    IsReply (plain_reply publish plain command) response ⊎ ((response ≡ refused memory) × IsTrue (may_be_refused command))
+    IsReply command (plain_reply publish plain command) response ⊎ ((response ≡ refused memory) × IsTrue (may_be_refused command))
 
 -- the map after an answer; a line that is refused changes nothing
 abbrev pub after_answer : Plain → LineMeaning → Response → Plain
