@@ -1,4 +1,5 @@
 mod ContentLemmas
+pub mod Known
 mod NameTexts
 mod Pending
 mod PieceLemmas

@@ -3,13 +3,13 @@ use Rattle.std.specs.Prelude.{ℕ, List}
 use Rattle.cache_model.specs.declared.entries.Lifespan.{Lifespan}
 use Rattle.cache_model.specs.declared.commands.Command.{Command}
 use Rattle.cache_model.specs.declared.commands.Command.TheVariants as command
-use Rattle.cache_model.specs.Lines.{Arguments, takes_nothing, takes_moment, takes_key, takes_key_value, takes_entry, takes_exchange}
+use Rattle.cache_model.specs.Lines.{Arguments, takes_nothing, takes_moment, takes_key, takes_key_value, takes_entry, takes_exchange, takes_step}
 use Rattle.cache_script.specs.declared.rows.PutKind.{PutKind}
 use Rattle.cache_script.specs.declared.rows.PutKind.TheVariants.{Put, PutAbsent, Replace}
 use Rattle.cache_script.specs.declared.rows.KeyKind.{KeyKind}
 use Rattle.cache_script.specs.declared.rows.KeyKind.TheVariants.{Get, Has, Remove}
 use Rattle.cache_script.specs.declared.rows.SoleKind.{SoleKind}
-use Rattle.cache_script.specs.declared.rows.SoleKind.TheVariants.{Size, Keys, Clear, Stop, Halt}
+use Rattle.cache_script.specs.declared.rows.SoleKind.TheVariants.{Size, Keys, Clear, Sync, Stop, Halt}
 use Rattle.cache_script.specs.declared.rows.Row.{Row}
 use Rattle.cache_script.specs.declared.rows.Row.TheVariants as row
 
@@ -30,6 +30,7 @@ abbrev pub sole_command : SoleKind → Command
 sole_command Size = command.Size
 sole_command Keys = command.Keys
 sole_command Clear = command.Clear
+sole_command Sync = command.Sync
 sole_command Stop = command.Stop
 sole_command Halt = command.Halt
 
@@ -40,4 +41,5 @@ row_arguments (row.Put kind) = takes_entry (put_command kind)
 row_arguments row.Exchange = takes_exchange command.ReplaceIf
 row_arguments (row.Key kind) = takes_key (key_command kind)
 row_arguments row.RemoveIf = takes_key_value command.RemoveIf
+row_arguments row.Step = takes_step
 row_arguments (row.Sole kind) = takes_nothing (sole_command kind)

@@ -1,7 +1,7 @@
 // One line of a script, as a command.
 ghost use Rattle.std.specs.Prelude.{◌≡◌, option_map, IfOk, IfErr, List, ℕ, Some};
-ghost use Rattle.cache_model.specs.Commands.{IsCommand};
-ghost use Rattle.cache_model.specs.Lines.{content_meaning, within_limits, ttl_refusal, takes_nothing, takes_moment, takes_key, takes_key_value, takes_entry, takes_exchange};
+ghost use Rattle.cache_model.specs.Commands.{IsCommand, HasLine};
+ghost use Rattle.cache_model.specs.Lines.{content_meaning, within_limits, ttl_refusal, takes_nothing, takes_moment, takes_key, takes_key_value, takes_entry, takes_exchange, takes_step};
 ghost use Rattle.cache_model.specs.Plain.{Plain};
 ghost use Rattle.cache_model.specs.Replies.{refused};
 ghost use Rattle.cache_model.specs.Transcript.{Answers};
@@ -12,7 +12,7 @@ ghost use Rattle.cache_script.specs.Rows.{put_command, key_command, sole_command
 
 use crate::LineFault;
 use crate::numbers::{number_of, ttl_of};
-use crate::rows::{KeyKind, PutKind, Row, SoleKind, row_of};
+use crate::rows::{KeyKind, PutKind, Row, SoleKind, row_of, step_of};
 use crate::tokens::Token;
 use crate::words::Words;
 use cache_model::{Command, Lifespan};
@@ -25,6 +25,7 @@ const UNITS_END: u64 = 1 << 61;
 pub fn read_line(alloc: Global, line: &[u8]) -> Result<Command, LineFault>
     ensures read { Reads (content_meaning line.now) result }
     ensures limits { IfOk result IsCommand }
+    ensures known { IfOk result HasLine }
     ensures refused { IfErr result (λ fault. (publish : List ℕ) (plain : Plain) → Answers publish plain (content_meaning line.now) (refused (refusal_of fault))) }
 {
     let mut words = Words::of(line);
@@ -48,6 +49,7 @@ fn read_row(alloc: Global, row: Row, words: &mut Words<'_>) -> Result<Command, L
         Row::Exchange => read_exchange(alloc, words),
         Row::Key(kind) => read_key(alloc, kind, words),
         Row::RemoveIf => read_remove_if(alloc, words),
+        Row::Step => read_step(words),
         Row::Sole(kind) => read_sole(kind, words),
     }
 }
@@ -77,6 +79,24 @@ fn read_moment(words: &mut Words<'_>) -> Result<Command, LineFault>
     };
     if moment < UNITS_END && words.is_done() {
         Ok(Command::At(moment))
+    } else {
+        Err(LineFault::Syntax)
+    }
+}
+
+// A step.
+fn read_step(words: &mut Words<'_>) -> Result<Command, LineFault>
+    ensures read { Reads (within_limits (takes_step words.old)) result }
+    ensures limits { IfOk result IsCommand }
+{
+    let Some(name) = words.next() else {
+        return Err(LineFault::Syntax);
+    };
+    let Some(kind) = step_of(name) else {
+        return Err(LineFault::Syntax);
+    };
+    if words.is_done() {
+        Ok(Command::Step(kind))
     } else {
         Err(LineFault::Syntax)
     }

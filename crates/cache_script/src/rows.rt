@@ -1,9 +1,11 @@
 // The commands that a line can ask for, each with its name and what stands behind it.
 ghost use Rattle.std.specs.Prelude.{◌≡◌, List, ℕ, MatchOption, None};
-ghost use Rattle.cache_model.specs.Lines.{row_command, command_rows};
+ghost use Rattle.std.specs.Map.{lookup};
+ghost use Rattle.std.specs.Str.{bytes_eq};
+ghost use Rattle.cache_model.specs.Lines.{row_command, command_rows, step_rows};
 ghost use Rattle.cache_script.specs.Rows.{put_command, key_command, sole_command, row_arguments};
 
-use cache_model::{Command, Key, Lifespan, Value};
+use cache_model::{Command, Key, Lifespan, StepKind, Value};
 
 /// A command that puts a value under a key.
 #[derive(Clone, Copy)]
@@ -53,6 +55,7 @@ pub enum SoleKind {
     Size,
     Keys,
     Clear,
+    Sync,
     Stop,
     Halt,
 }
@@ -66,6 +69,7 @@ impl SoleKind {
             SoleKind::Size => Command::Size,
             SoleKind::Keys => Command::Keys,
             SoleKind::Clear => Command::Clear,
+            SoleKind::Sync => Command::Sync,
             SoleKind::Stop => Command::Stop,
             SoleKind::Halt => Command::Halt,
         }
@@ -85,8 +89,21 @@ pub enum Row {
     Key(KeyKind),
     /// A key and the value that it is to have.
     RemoveIf,
+    /// The name of a step.
+    Step,
     /// Nothing.
     Sole(SoleKind),
+}
+
+/// The step of a name, where lines can ask for it.
+pub fn step_of(name: &[u8]) -> Option<StepKind>
+    ensures { result ≡ lookup (bytes_eq name.now) step_rows }
+{
+    if name == b"rotate".as_slice() {
+        Some(StepKind::Rotate)
+    } else {
+        None
+    }
 }
 
 /// The row of a command's name, where there is one.
@@ -119,6 +136,10 @@ pub fn row_of(name: &[u8]) -> Option<Row>
         Some(Row::Sole(SoleKind::Keys))
     } else if name == b"clear".as_slice() {
         Some(Row::Sole(SoleKind::Clear))
+    } else if name == b"step".as_slice() {
+        Some(Row::Step)
+    } else if name == b"sync".as_slice() {
+        Some(Row::Sole(SoleKind::Sync))
     } else if name == b"stop".as_slice() {
         Some(Row::Sole(SoleKind::Stop))
     } else if name == b"halt".as_slice() {

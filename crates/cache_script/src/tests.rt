@@ -13,7 +13,7 @@ use std::process::Abort;
 use std::test::Fail;
 
 /// Lines without keys, and what is read of them.
-const SOLE_LINES: [(&str, &str); 24] = [
+const SOLE_LINES: [(&str, &str); 39] = [
     ("at 0", "Ok(At(0))"),
     ("at 00000000000000000007", "Ok(At(7))"),
     ("at 000000000000000000007", "Err(Syntax)"),
@@ -27,6 +27,21 @@ const SOLE_LINES: [(&str, &str); 24] = [
     ("size", "Ok(Size)"),
     ("keys", "Ok(Keys)"),
     ("clear", "Ok(Clear)"),
+    ("sync", "Ok(Sync)"),
+    ("sync x", "Err(Syntax)"),
+    ("sync ", "Err(Syntax)"),
+    ("step rotate", "Ok(Step(Rotate))"),
+    ("step", "Err(Syntax)"),
+    ("step ", "Err(Syntax)"),
+    ("step rotate x", "Err(Syntax)"),
+    ("step  rotate", "Err(Syntax)"),
+    ("step rotate ", "Err(Syntax)"),
+    ("step Rotate", "Err(Syntax)"),
+    ("step index", "Err(Syntax)"),
+    ("step flush", "Err(Syntax)"),
+    ("step compact", "Err(Syntax)"),
+    ("step evict", "Err(Syntax)"),
+    ("step reap", "Err(Syntax)"),
     ("stop", "Ok(Stop)"),
     ("halt", "Ok(Halt)"),
     ("size ", "Err(Syntax)"),

@@ -5,6 +5,7 @@ use Rattle.cache_script.specs.declared.faults.LineFault.TheVariants.{Syntax}
 use Rattle.cache_script.specs.Reading.{Reads}
 use Rattle.cache_script.specs.Rows.{row_arguments}
 use Rattle.cache_script.proofs.ReadingLemmas.{content_meaning-words, words_command-named, words_command-none, fault-answers}
+use Rattle.cache_script.proofs.Known.{read_known}
 use Rattle.cache_script.proofs.line.read_line.Goals as goal
 
 pub returns-in_default-clause-read : goal.returns-in_default-clause-read
@@ -24,6 +25,9 @@ returns-in-Some-row_of-clause-read c =
     content_meaning-words c.args.line.now
     ∙ ap within_limits (ap words_command (sym c.of-words.ensures) ∙ words_command-named words c.in-Some.name.now c.in-Some.ensures.word ∙ named (drop 1 words) ∙ ap (row_arguments c.in-Some-row_of.row) (sym c.in-Some.ensures.left)) in
     subst (λ m. Reads m c.read_row.result) (sym meaning) c.read_row.ensures.read
+
+pub returns-in-Some-row_of-clause-known : goal.returns-in-Some-row_of-clause-known
+returns-in-Some-row_of-clause-known c = read_known c.args.line.now c.read_row.result (returns-in-Some-row_of-clause-read c)
 
 pub returns-in-Some-row_of-clause-refused : goal.returns-in-Some-row_of-clause-refused
 returns-in-Some-row_of-clause-refused c = fault-answers (content_meaning c.args.line.now) c.read_row.result (returns-in-Some-row_of-clause-read c)
