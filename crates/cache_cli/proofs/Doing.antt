@@ -11,10 +11,11 @@ use Rattle.cache_model.specs.Plain.{moment_after}
 use Rattle.cache_model.specs.Transcript.{may_be_refused}
 use Rattle.cache_disk.specs.State.{HostState, Silent}
 use Rattle.store_trait.specs.Keeping.{HoldsNow, SameStore}
-use Rattle.cache_session.specs.Turns.{Turns}
+use Rattle.cache_session.specs.Turns.{Turns, IsBuilt}
 use Rattle.cache_cli.specs.Talk.{Course, Talk, plain_of, next_command}
 use Rattle.cache_cli.specs.Ends.{EndsEarly}
 use Rattle.cache_cli.specs.Run.{View, IsTalking, EndsBy, Does}
+use Rattle.cache_cli.proofs.Built.{reply_is}
 use Rattle.cache_cli.proofs.Running.{turn_holds, done_tells, refused_tells}
 use Rattle.cache_cli.proofs.Ending.{ends_early}
 
@@ -40,12 +41,12 @@ module _ (from : HostState) (course : Course) (ordered : Bool) (left : List (Lis
     (hand : next_command left ≡ command ∷ [])
     (same : SameStore old.facts new.facts) where
   -- a command was done
-  pub does_ok : (reply : Reply) → spoilt ≡ false → HoldsNow new.facts new.store new.host.turn → new.moment ≡ moment_after old.moment command
+  pub does_ok : (reply : Reply) → IsBuilt command → spoilt ≡ false → HoldsNow new.facts new.store new.host.turn → new.moment ≡ moment_after old.moment command
       → Turns [] (plain_of talk) command old.facts new.facts spoilt old.store new.store old.host new.host (Ok reply)
       → Does from course ordered left talk command old new (Ok (Some reply))
-  does_ok reply unspoilt now moment turn = record {
+  does_ok reply built unspoilt now moment turn = record {
     goes = (
-      turn.reply,
+      reply_is command (plain_of talk) reply old.store old.facts.parts new.facts.parts built turn.reply turn.step,
       λ next said answered responses ended done is_talk says. done_tells from course ordered left talk old new command spoilt talking hand same unspoilt reply next said answered responses ended turn now moment done is_talk says,
       quiet_end old.host new.host turn.did.others.images.later turn.did.silent,
     );

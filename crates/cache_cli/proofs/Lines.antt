@@ -1,5 +1,5 @@
 -- A line more is answered.
-use Rattle.std.proofs.Common.{◌≡◌, inl, ℕ, Bool, true, false, List, [], ◌∷◌, ◌++◌, Option, Some, None, Result, Ok, Err, refl, sym, ◌∙◌, ap, subst}
+use Rattle.std.proofs.Common.{◌≡◌, inl, ℕ, Bool, true, false, List, [], ◌∷◌, ◌++◌, Result, Ok, Err, refl, sym, ◌∙◌, ap, subst}
 use Rattle.std.specs.Prelude.{◌||◌, not}
 use Rattle.std.specs.List.{list_any}
 use Rattle.std.proofs.lemmas.List.{append-nil}
@@ -10,11 +10,10 @@ use Rattle.cache_model.specs.declared.replies.Reply.{Reply}
 use Rattle.cache_model.specs.declared.replies.Status.{Status}
 use Rattle.cache_model.specs.Plain.{plain_reply}
 use Rattle.cache_model.specs.Lines.{LineMeaning, asks, refuses, meaning_of}
-use Rattle.cache_model.specs.Replies.{Response, Refusal, replies, refused, reply_text, refusal_text, line_of}
+use Rattle.cache_model.specs.Replies.{Response, Refusal, replies, refused, reply_text, refusal_text, response_text, line_of}
 use Rattle.cache_model.specs.Transcript.{IsReply, Answers, command_done, ends_talk}
 use Rattle.cache_disk.specs.State.{HostState}
 use Rattle.cache_disk.specs.Calls.{and_then_said}
-use Rattle.cache_session.specs.Turns.{IsReplyOf}
 use Rattle.cache_cli.specs.Talk.{Course, Talk, done_in, plain_of, is_over}
 use Rattle.cache_cli.specs.Run.{View, TellsMore, IsTelling, IsTalking, IsInHand, Told, AnswersBy, Answered, LongAnswered, Closed}
 use Rattle.cache_cli.proofs.Answering.{with_answer, with_end, not_ended, none_ends, done-append, talk-append, says-append, done-end, talk-end, says-end}
@@ -52,14 +51,10 @@ refusal_in_hand from course ordered left talk line refusal now talking answers =
     (says-append course left talk talking.1 line response (now.host.said now.host.turn) talking.0.says)
 
 -- the reply of a command that was done is in hand
-is_reply : (wanted : Option Reply) (reply : Reply) → IsReplyOf wanted reply → IsReply wanted (replies reply)
-is_reply (Some other) reply is = ap (λ (r : Reply). replies r) is
-is_reply None reply is = (reply, refl)
-
 pub reply_in_hand : (from : HostState) (course : Course) (ordered : Bool) (left : List (List ℕ)) (talk : Talk) (line : List ℕ) (command : Command) (reply : Reply) (old now : View)
     → IsTalking from course ordered (line ∷ left) talk old
     → meaning_of line ≡ asks command
-    → IsReplyOf (plain_reply [] (plain_of talk) command) reply
+    → IsReply command (plain_reply [] (plain_of talk) command) (replies reply)
     → now.host.said now.host.turn ≡ old.host.said old.host.turn
     → TellsMore from course ordered talk command now
     → IsInHand from course ordered left (with_answer talk line (replies reply)) (line_of (reply_text reply)) now
@@ -68,13 +63,13 @@ reply_in_hand from course ordered left talk line command reply old now talking a
     let is = talking.0.is_talk in
     more left (and_then_said (now.host.said now.host.turn) (line_of (reply_text reply))) (talk.answered ++ line ∷ []) (talk.responses ++ response ∷ []) talk.ended
     (done-append course left talk talking.1 line response is ∙ ap (λ (m : LineMeaning). done_in talk ++ command_done m response) asked)
-    (talk-append course left talk talking.1 line response is (subst (λ (m : LineMeaning). Answers [] (plain_of talk) m response) (sym asked) (inl (is_reply (plain_reply [] (plain_of talk) command) reply is_reply_of))))
+    (talk-append course left talk talking.1 line response is (subst (λ (m : LineMeaning). Answers [] (plain_of talk) m response) (sym asked) (inl is_reply_of)))
     (says-append course left talk talking.1 line response (now.host.said now.host.turn) (said ∙ talking.0.says))
 
 -- the answer to the end of the script is in hand
 pub end_in_hand : (from : HostState) (course : Course) (ordered : Bool) (talk : Talk) (reply : Reply) (old now : View)
     → IsTalking from course ordered [] talk old
-    → IsReplyOf (plain_reply [] (plain_of talk) Stop) reply
+    → IsReply Stop (plain_reply [] (plain_of talk) Stop) (replies reply)
     → now.host.said now.host.turn ≡ old.host.said old.host.turn
     → TellsMore from course ordered talk Stop now
     → IsInHand from course ordered [] (with_end talk) (line_of (reply_text reply)) now
@@ -82,7 +77,7 @@ end_in_hand from course ordered talk reply old now talking stopped said more =
     more [] (and_then_said (now.host.said now.host.turn) (line_of (reply_text reply))) talk.answered talk.responses true
     (done-end course [] talk talking.1)
     (talk-end course [] talk talking.1 talking.0.is_talk refl)
-    (ap (λ (r : Reply). and_then_said (now.host.said now.host.turn) (line_of (reply_text r))) stopped ∙ says-end course [] talk talking.1 (now.host.said now.host.turn) (said ∙ talking.0.says))
+    (ap (λ (r : Response). and_then_said (now.host.said now.host.turn) (line_of (response_text r))) stopped ∙ says-end course [] talk talking.1 (now.host.said now.host.turn) (said ∙ talking.0.says))
 
 module _ (from : HostState) (course : Course) (ordered : Bool) (left : List (List ℕ)) (talk : Talk) (line : List ℕ) (response : Response) (going : is_over talk ≡ false) where
   negated : (b : Bool) → true ≡ not b → b ≡ false

@@ -7,8 +7,8 @@ use Rattle.cache_model.specs.declared.faults.Spent.TheVariants.{Files, Sequence}
 use Rattle.cache_model.specs.declared.replies.Status.{Status}
 use Rattle.cache_model.specs.declared.replies.Status.TheVariants as status
 use Rattle.cache_model.specs.declared.replies.Reply.{Reply}
-use Rattle.cache_model.specs.Replies.{Response}
-use Rattle.cache_model.specs.Transcript.{may_be_refused}
+use Rattle.cache_model.specs.Replies.{Response, replies}
+use Rattle.cache_model.specs.Transcript.{IsReply, may_be_refused}
 use Rattle.cache_model.specs.Plain.{Plain, plain_after, plain_reply}
 use Rattle.cache_disk.specs.State.{HostState, Silent}
 use Rattle.cache_disk.specs.Calls.{and_then_said}
@@ -17,7 +17,7 @@ use Rattle.store_trait.specs.Keeping.{IsOnly, Leaves}
 use Rattle.store_trait.specs.Calls.{IsNumbered}
 use Rattle.cache_session.specs.Changing.{Shows}
 use Rattle.cache_session.specs.declared.session.Session.{Session}
-use Rattle.cache_session.specs.Turns.{store_of, moment_of, promises, files_by, IsReplyOf, IsContentAfter}
+use Rattle.cache_session.specs.Turns.{store_of, moment_of, promises, files_by, IsContentAfter}
 use Rattle.cache_cli.specs.Fitting.{IsLog, IsOpening, ReadsPrefix, ReadsCut}
 use Rattle.cache_cli.specs.Standing.{Standing}
 use Rattle.cache_cli.specs.Talk.{Course, Talk, IsTalk, plain_of, done_in, text_of, is_over, hand_of, next_command}
@@ -138,7 +138,7 @@ TellsMore from course ordered talk command now =
 -- what a command that was done, or refused for want of memory, leaves
 abbrev pub DoesBy : Option Reply → HostState → Course → Bool → List (List ℕ) → Talk → Command → View → View → Type 0
 DoesBy (Some reply) from course ordered left talk command old now =
-    IsReplyOf (plain_reply [] (plain_of talk) command) reply × TellsMore from course ordered talk command now × (now.host.said now.host.turn ≡ old.host.said old.host.turn)
+    IsReply command (plain_reply [] (plain_of talk) command) (replies reply) × TellsMore from course ordered talk command now × (now.host.said now.host.turn ≡ old.host.said old.host.turn)
 DoesBy None from course ordered left talk command old now = IsTalking from course ordered left talk now × IsTrue (may_be_refused command)
 
 -- The command in hand was done, or refused for want of memory, or the run ended.

@@ -6,12 +6,13 @@ use Rattle.cache_script.specs.Refusals.{refusal_of}
 use Rattle.cache_cli.specs.Talk.{plain_of}
 use Rattle.cache_cli.specs.Run.{view_by}
 use Rattle.cache_cli.proofs.Answering.{with_answer}
-use Rattle.cache_cli.proofs.Built.{asked_of, read_built}
+use Rattle.cache_script.proofs.Known.{asked_of}
+use Rattle.cache_cli.proofs.Built.{line_built}
 use Rattle.cache_cli.proofs.Lines.{refusal_in_hand, answered_ok, answered_err}
 use Rattle.cache_cli.proofs.run.answer_line.Goals as goal
 
 pub answer-requires-clause-built : goal.answer-requires-clause-built
-answer-requires-clause-built g c = read_built c.args.line.now c.in-Ok.command c.in-Ok.ensures.read
+answer-requires-clause-built g c = line_built c.in-Ok.command c.in-Ok.ensures.known
 
 pub returns-in-Ok-clause-answered : goal.returns-in-Ok-clause-answered
 returns-in-Ok-clause-answered g c = λ tells from course ordered raw left talk talking means.

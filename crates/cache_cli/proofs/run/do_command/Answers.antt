@@ -22,7 +22,7 @@ returns-in-Ok-clause-does g c = λ tells from course ordered left talk talking h
     let ensures = c.in-Ok.ensures in
     let turn = ensures.turns tells [] (plain_of talk) talking.0.moment talking.0.standing.shows in
     let unspoilt = ensures.goes.unspoilt in
-    does_ok start course ordered left talk old new c.args.command spoilt talking hand ensures.goes.same c.in-Ok.reply unspoilt
+    does_ok start course ordered left talk old new c.args.command spoilt talking hand ensures.goes.same c.in-Ok.reply c.requires.built unspoilt
     (g.met.S.ReadStore.holds_now (store_of after) c.turn.new.host tells (second_false (is_broken after) (g.S.Keyed.facts (store_of after)).spoilt unspoilt) (ensures.stands tells unspoilt))
     ensures.goes.goes turn
 
