@@ -80,7 +80,10 @@ REPLIES = {
     b"clear x": "refused syntax",
     b"stop x": "refused syntax",
     b"halt ": "refused syntax",
-    b"sync": "refused syntax",
+    b"sync x": "refused syntax",
+    b"step": "refused syntax",
+    b"step Rotate": "refused syntax",
+    b"step rotate x": "refused syntax",
     b"step flush": "refused syntax",
     b"evict a": "refused syntax",
     b"compact": "refused syntax",
@@ -158,7 +161,7 @@ def test_last_line_without_end(folder):
 def test_first_lines(folder):
     """A put is done and read, and the lines that aren't built or aren't in the grammar are refused."""
     said = ["opened 1000", "ok", "value b", "refused syntax", "refused syntax", "stopped"]
-    check_words(AT, folder, b"put a b\nget a\nput\nsync\n", DONE, said)
+    check_words(AT, folder, b"put a b\nget a\nput\nstats\n", DONE, said)
     equal((folder / FIRST_FILE).read_bytes(), ONE_PUT, "the file")
 
 
