@@ -1,10 +1,10 @@
 -- Each key of an image has a newest record, or none that counts; and each image has a mark.
 use Rattle.std.proofs.Common.{◌≡◌, ◌⊎◌, inl, inr, ⊎_elim, ℕ, ◌<◌, ◌≤◌, Bool, true, false, cond, List, [], ◌∷◌, map, Contains, refl, sym, ◌∙◌, ap, subst, arith}
-use Rattle.std.specs.Prelude.{Option, Some, None, unwrap_or, nat_lt, nat_le}
+use Rattle.std.specs.Prelude.{◌||◌, Option, Some, None, unwrap_or, nat_lt, nat_le}
 use Rattle.std.specs.Str.{bytes_eq}
 use Rattle.std.specs.Bool.{Decides}
 use Rattle.std.proofs.lemmas.Slice.Eq.{bytes_eq-Decides}
-use Rattle.std.specs.List.{flat_map}
+use Rattle.std.specs.List.{flat_map, list_any}
 use Rattle.std.specs.Map.{lookup}
 use Rattle.std.proofs.lemmas.Bool.Decides.{nat_tests}
 use Rattle.std.proofs.lemmas.Bool.{cases_lt}
@@ -184,6 +184,43 @@ newest_exists image key = ⊎_elim
       },
     ))
     (newest-of key (all_placed image))
+
+-- the keys of some placed items, those of a later item behind
+abbrev with_key : Option (List ℕ) → List (List ℕ) → List (List ℕ)
+with_key None keys = keys
+with_key (Some key) keys = key ∷ keys
+
+abbrev keys_of : List Placed → List (List ℕ)
+keys_of [] = []
+keys_of (one ∷ items) = with_key (key_of one.2) (keys_of items)
+
+-- whether a key is among some
+abbrev pub has_key : List ℕ → List (List ℕ) → Bool
+has_key key keys = list_any (λ one. bytes_eq one key) keys
+
+key-among : (items : List Placed) (one : Placed) (key : List ℕ) → Contains items one → key_of one.2 ≡ Some key → has_key key (keys_of items) ≡ true
+key-among [] one key among is = absurd (among-none one among)
+key-among (first ∷ items) one key among is = by (key_of first.2) refl (λ later. key-among items one key later is) (among-cases first one items among)
+  where
+    front : (found : List ℕ) → found ≡ key → (bytes_eq found key || has_key key (keys_of items)) ≡ true
+    front found same = ap (λ (b : Bool). b || has_key key (keys_of items)) ((bytes_eq-Decides found key).1 same)
+
+    behind : (b : Bool) → has_key key (keys_of items) ≡ true → (b || has_key key (keys_of items)) ≡ true
+    behind true later = refl
+    behind false later = later
+
+    by : (found : Option (List ℕ)) → key_of first.2 ≡ found → (Contains items one → has_key key (keys_of items) ≡ true) → (first ≡ one) ⊎ Contains items one → has_key key (with_key found (keys_of items)) ≡ true
+    by None at rest (inl same) = let no : None ≡ Some key = sym at ∙ ap (λ (p : Placed). key_of p.2) same ∙ is in cc
+    by None at rest (inr later) = rest later
+    by (Some found) at rest (inl same) = front found (same_Some found key (sym at ∙ ap (λ (p : Placed). key_of p.2) same ∙ is))
+    by (Some found) at rest (inr later) = behind (bytes_eq found key) (rest later)
+
+-- there are keys among which is that of each record that counts
+pub keys_exist : (image : Image) → (keys : List (List ℕ)) × ((key : List ℕ) → has_key key keys ≡ false → HasNoRecord image key)
+keys_exist image = (
+  keys_of (all_placed image),
+  λ key none n a item counted of_key. let no : true ≡ false = sym (key-among (all_placed image) (placed n a item) key (counts-placed image n a item counted) of_key) ∙ none in cc,
+)
 
 -- The greatest moment of the ends among some placed items, or 0.
 record IsGreatestOf (items : List Placed) (mark : ℕ) : Type 0 where
