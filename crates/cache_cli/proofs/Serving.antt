@@ -1,5 +1,5 @@
 -- The run of the whole program, by what the run over its store told.
-use Rattle.std.proofs.Common.{◌≡◌, ◌⊎◌, inl, inr, ⊎_elim, ℕ, ◌-◌, ◌^◌, ◌≤◌, ◌<◌, Bool, true, false, List, [], ◌∷◌, Option, Some, None, Result, Ok, Err, refl, sym, ◌∙◌, ap, subst, arith}
+use Rattle.std.proofs.Common.{◌≡◌, ◌⊎◌, inl, inr, ⊎_elim, ℕ, ◌-◌, ◌^◌, ◌≤◌, ◌<◌, Bool, true, false, List, [], ◌∷◌, ◌++◌, take, length, Option, Some, None, Result, Ok, Err, refl, sym, ◌∙◌, ap, subst, arith}
 use Rattle.std.specs.Prelude.{max}
 use Rattle.std.proofs.lemmas.Bool.{cases_lt}
 use Rattle.cache_model.specs.declared.entries.Entry.{Entry}
@@ -10,14 +10,16 @@ use Rattle.cache_model.specs.declared.files.FileName.{FileName}
 use Rattle.cache_model.specs.declared.replies.Status.{Status}
 use Rattle.cache_model.specs.declared.replies.Status.TheVariants as status
 use Rattle.cache_model.specs.declared.settings.Settings.{Settings}
-use Rattle.cache_model.specs.Settings.{default_settings}
+use Rattle.cache_model.specs.Settings.{AreInRange}
 use Rattle.cache_model.specs.Files.{Image}
+use Rattle.std.specs.FinMap.{get}
+use Rattle.cache_model.specs.Changes.{KeyChange, entry_after}
 use Rattle.cache_model.specs.Plain.{visible_at}
 use Rattle.cache_model.specs.Images.{IsCounted, IsMark, IsSound, HasEntry, SameRecords}
 use Rattle.cache_model.proofs.Existing.{mark_exists, mark_is_single}
 use Rattle.cache_disk.specs.State.{HostState, SameFiles, Stands}
 use Rattle.cache_disk.specs.Calls.{AllLeft, and_then_said}
-use Rattle.store_trait.specs.Meaning.{Reading, Row, Numbers, seen, StoreFacts, StoreState, read_in}
+use Rattle.store_trait.specs.Meaning.{Reading, Content, Row, Numbers, seen, StoreFacts, StoreState, read_in}
 use Rattle.store_trait.specs.Keeping.{Leaves, IsSettled}
 use Rattle.store_trait.specs.Calls.{IsReady}
 use Rattle.store_trait.proofs.Runs.{leaves_then}
@@ -26,17 +28,20 @@ use Rattle.data_file.specs.declared.appender.Appender.{Appender}
 use Rattle.soft_index.specs.declared.log_store.LogStore.{LogStore}
 use Rattle.soft_index.specs.Index.{IsRead, IsStarted}
 use Rattle.soft_index.specs.Opening.{IsFirstDamageOf}
-use Rattle.soft_index.specs.Store.{HasReading, row_of, current_of, next_file, is_spent, owns_file}
+use Rattle.soft_index.specs.Store.{AreInRange as IsInRangeOfStore, HasReading, row_of, current_of, next_file, is_spent, owns_file}
 use Rattle.cache_session.specs.declared.session.Session.{Session}
+use Rattle.cache_session.specs.Changing.{of_key}
 use Rattle.cache_session.specs.Turns.{store_of, moment_of, is_broken, IsFit}
 use Rattle.cache_cli.specs.Fitting.{entry_of_reading}
-use Rattle.cache_cli.specs.Talk.{Course, FitsTalk, HoldsAtTurn}
+use Rattle.cache_cli.specs.Talk.{Course, FitsTalkTogether, HoldsAtTurn, HoldsTogetherAtTurn, done_in, is_over, hand_of}
 use Rattle.cache_cli.specs.Run.{View, view, view_by, TellsAt, HoldsSince, EndsSaying, EndsAtSpent, EndsBy}
 use Rattle.cache_cli.specs.Ends.{EndsSpent, Ends, EndsRefused}
 use Rattle.cache_cli.specs.Opening.{Begins, Finished}
-use Rattle.cache_cli.specs.Serving.{course_of, IsStill, IsOpenedFrom, Serves, TellsDamage, HoldsFrom}
+use Rattle.cache_cli.specs.Serving.{course_by, IsStill, IsOpenedFrom, Serves, TellsDamage, HoldsTogetherFrom}
 use Rattle.cache_cli.proofs.Same.{same_then, same_back, records_same, mark_same, sound_same, next_sequence_same, next_file_same}
-use Rattle.cache_cli.proofs.Contents.{opening_of, entry_read, reading_exists}
+use Rattle.cache_cli.proofs.Contents.{opening_of, entry_read, content_exists}
+use Rattle.cache_cli.proofs.Logs.{log_of_key}
+use Rattle.cache_cli.proofs.Standing.{front_within}
 use Rattle.cache_cli.proofs.Running.{leaves_all}
 
 -- two steps that leave all files
@@ -63,13 +68,13 @@ read_said a b read = ⊎_elim (λ later. read.silent.since b.turn later (omega a
 
 -- an image before anything is said
 untouched_at : (from : HostState) (course : Course) (said : Option (List ℕ)) (before image : Image)
-    → said ≡ from.said from.turn → from.left from.turn before → SameFiles before image → IsSound image → HoldsAtTurn from course said image
+    → said ≡ from.said from.turn → from.left from.turn before → SameFiles before image → IsSound image → HoldsTogetherAtTurn from course said image
 untouched_at from course None before image silent left same sound = sound
 untouched_at from course (Some said) before image silent left same sound = (sound, inl (record { silent = silent; before = before; left = left; same = records_same before image same }))
 
 -- it holds up to the turn at which the store was opened
 opened_at : (from mid : HostState) (course : Course) → IsRead from mid → AllLeft from (λ image. IsSound image) → (t : ℕ) (image : Image) (said : Option (List ℕ))
-    → from.turn ≤ t → t ≤ mid.turn → said ≡ mid.said t → mid.left t image → HoldsAtTurn from course said image
+    → from.turn ≤ t → t ≤ mid.turn → said ≡ mid.said t → mid.left t image → HoldsTogetherAtTurn from course said image
 opened_at from mid course read sound t image said after before is left =
     ⊎_elim
     (λ later.
@@ -82,47 +87,75 @@ opened_at from mid course read sound t image said after before is left =
     (cases_lt from.turn t)
 
 -- a run that read the files and did no more
-pub read_holds : (from mid : HostState) (course : Course) → IsRead from mid → HoldsFrom from mid course
+pub read_holds : (from mid : HostState) (course : Course) → IsRead from mid → HoldsTogetherFrom from mid course
 read_holds from mid course read = λ sound. record {
   later = read.images.later;
   each = λ t image after before left. opened_at from mid course read sound t image (mid.said t) after before refl left;
 }
 
--- an image fits the talk that was said by then
-image_fits : (course : Course) (ordered : Bool) (store : StoreState) (t : ℕ) (said : List ℕ) (image : Image)
-    → ((key : List ℕ) (r : Reading) (mark : ℕ) → HasReading (IsCounted image) key r → IsMark image mark → store.may t key r mark)
-    → TellsAt course ordered store t said → FitsTalk course said image
-image_fits course ordered store t said image may tells = record {
-  talk = tells.talk;
-  left = tells.left;
-  is_talk = tells.is_talk;
-  says = tells.says;
-  fits = λ key.
-      let read = reading_exists image key in
-      let mark = mark_exists image in
-      let prefix = tells.fits key read.0 mark.0 (may key read.0 mark.0 read.1 mark.1) in
-      record {
-        entry = entry_of_reading read.0;
-        read = entry_read image key read.0 read.1;
-        count = prefix.count;
-        holds = prefix.holds;
-        within = prefix.within;
-        reads = λ other moment marked late. seen_is moment read.0 ∙ prefix.reads moment (omega (arith, late, mark_is_single image mark.0 other mark.1 marked));
-      };
-}
+-- all keys of an image together fit the talk that was said by then
+image_fits : (course : Course) (store : StoreState) (t : ℕ) (said : List ℕ) (image : Image)
+    → ((c : Content) (mark : ℕ) → ((key : List ℕ) → HasReading (IsCounted image) key (read_in c key)) → IsMark image mark → store.whole t c mark)
+    → TellsAt course true store t said → FitsTalkTogether course said image
+image_fits course store t said image whole tells =
+    let content = content_exists image in
+    let mark = mark_exists image in
+    let cut = tells.cut refl content.0 mark.0 (whole content.0 mark.0 content.1 mark.1) in
+    let commands = done_in tells.talk ++ hand_of (is_over tells.talk) tells.left in
+    record {
+      talk = tells.talk;
+      left = tells.left;
+      is_talk = tells.is_talk;
+      says = tells.says;
+      log = cut.log;
+      is_log = cut.is_log;
+      count = cut.count;
+      within = cut.within;
+      fits = λ key.
+          let same = log_of_key tells.talk.opening commands cut.log key cut.is_log in
+          let r = read_in content.0 key in (
+            record {
+              entry = entry_of_reading r;
+              read = entry_read image key r (content.1 key);
+              count = length (of_key key (take cut.count cut.log));
+              holds = cut.holds key;
+              within = omega (arith, front_within key cut.log cut.count, ap (λ (l : List KeyChange). length l) same);
+              reads = λ other moment marked late. seen_is moment r ∙ cut.reads key moment (omega (arith, late, mark_is_single image mark.0 other mark.1 marked))
+                  ∙ ap (λ (l : List KeyChange). visible_at moment (entry_after (get tells.talk.opening.entries key) l (length (of_key key (take cut.count cut.log))))) same;
+            },
+            refl,
+          );
+    }
   where
     seen_is : (m : ℕ) (r : Reading) → visible_at m (entry_of_reading r) ≡ seen m r
     seen_is m None = refl
     seen_is m (Some entry) = refl
 
+-- what holds of all keys together holds of each one
+each_at : (from : HostState) (course : Course) (said : Option (List ℕ)) (image : Image) → HoldsTogetherAtTurn from course said image → HoldsAtTurn from course said image
+each_at from course None image holds = holds
+each_at from course (Some said) image holds = (
+  holds.0,
+  ⊎_elim (λ untouched. inl untouched) (λ together. inr (record { talk = together.talk; left = together.left; is_talk = together.is_talk; says = together.says; fits = λ key. (together.fits key).0 })) holds.1,
+)
+
+-- a run that ended, where what holds is told of all keys together
+pub serves_by : (ended : Status) (from to : HostState) (course : Course) → Ends ended course to → Leaves owns_file false from to → HoldsTogetherFrom from to course → Serves ended from to course
+serves_by ended from to course ends others cut = record {
+  ends = ends;
+  others = others;
+  crash = λ sound. record { later = (cut sound).later; each = λ t image after before left. each_at from course (to.said t) image ((cut sound).each t image after before left) };
+  cut = cut;
+}
+
 -- it holds at every turn of the whole run
 pub run_holds : (from mid : HostState) (course : Course) (now : View)
     → IsRead from mid
-    → ((t : ℕ) (image : Image) (key : List ℕ) (r : Reading) (mark : ℕ) → now.host.left t image → HasReading (IsCounted image) key r → IsMark image mark → now.store.may t key r mark)
+    → ((t : ℕ) (image : Image) (c : Content) (mark : ℕ) → now.host.left t image → ((key : List ℕ) → HasReading (IsCounted image) key (read_in c key)) → IsMark image mark → now.store.whole t c mark)
     → ((t : ℕ) (image : Image) → now.store.opens t → now.host.left t image → IsSound image)
     → HoldsSince mid course true now
-    → HoldsFrom from now.host course
-run_holds from mid course now read may opens holds = λ sound. record {
+    → HoldsTogetherFrom from now.host course
+run_holds from mid course now read whole opens holds = λ sound. record {
   later = omega (arith, read.images.later, holds.others.images.later);
   each = λ t image after before left.
       ⊎_elim
@@ -131,11 +164,11 @@ run_holds from mid course now read may opens holds = λ sound. record {
       (cases_lt mid.turn t);
 }
   where
-    at_talk : (t : ℕ) (image : Image) (said : Option (List ℕ)) → mid.turn < t → t ≤ now.host.turn → now.host.left t image → now.host.said t ≡ said → HoldsAtTurn from course said image
+    at_talk : (t : ℕ) (image : Image) (said : Option (List ℕ)) → mid.turn < t → t ≤ now.host.turn → now.host.left t image → now.host.said t ≡ said → HoldsTogetherAtTurn from course said image
     at_talk t image None later before left is = opens t image (holds.opens t (omega (arith, later)) before) left
     at_talk t image (Some said) later before left is = (
       opens t image (holds.opens t (omega (arith, later)) before) left,
-      inr (image_fits course true now.store t said image (λ key r mark. may t image key r mark left) (holds.each t said later before is)),
+      inr (image_fits course now.store t said image (λ c mark. whole t image c mark left) (holds.each t said later before is)),
     )
 
 -- how the run ends
@@ -216,13 +249,13 @@ started_same a b settings facts state mark same started =
       parts = started.parts;
     }
 
-pub begins : (from mid : HostState) (given moment mark : ℕ) (lines : List (List ℕ)) (facts : StoreFacts) (state : StoreState)
-    → (opened : IsOpenedFrom from mid facts state mark)
+pub begins : (settings : Settings) (from mid : HostState) (given moment mark : ℕ) (lines : List (List ℕ)) (facts : StoreFacts) (state : StoreState)
+    → (opened : IsOpenedFrom settings from mid facts state mark)
     → facts.drawn ≤ opened.started.numbers.0.sequence → facts.made ≤ opened.started.numbers.0.file
     → state.sound → facts.ordered ≡ true
     → moment ≡ max given mark
-    → Begins (course_of from given lines) true (record { facts = facts; store = state; host = mid; moment = moment })
-begins from mid given moment mark lines facts state opened drawn made sound ordered is =
+    → Begins (course_by settings from given lines) true (record { facts = facts; store = state; host = mid; moment = moment })
+begins settings from mid given moment mark lines facts state opened drawn made sound ordered is =
     let started = opened.started in
     let plain = opening_of state.content moment in
     record {
@@ -279,7 +312,7 @@ file_le None number n m parts is same = omega (arith, ap (λ (x : Numbers). x.fi
 file_le (Some log) number n m parts is same = absurd (some_none number (ap first_current parts))
 
 -- a directory that is damaged isn't one that a run may begin on
-pub never_damaged : (from : HostState) (to : HostState) (course : Course) (damage : Damage) → from.left from.turn from.files → IsFirstDamageOf from.files damage → HoldsFrom from to course
+pub never_damaged : (from : HostState) (to : HostState) (course : Course) (damage : Damage) → from.left from.turn from.files → IsFirstDamageOf from.files damage → HoldsTogetherFrom from to course
 never_damaged from to course damage reads first = λ sound. absurd (no_damage (sound from.files reads damage.file.id first.1.bytes first.1.there) first.1.damage)
   where
     no_damage : {A : Type 0} {found : Option A} {x : A} → found ≡ None → found ≡ Some x → ⊥
@@ -352,37 +385,37 @@ pub serves_whole : (from mid : HostState) (course : Course) (now : View) (result
     → Finished mid course true now result → result ≡ Ok tt
     → now.facts.owns ≡ owns_file
     → IsRead from mid
-    → ((t : ℕ) (image : Image) (key : List ℕ) (r : Reading) (mark : ℕ) → now.host.left t image → HasReading (IsCounted image) key r → IsMark image mark → now.store.may t key r mark)
+    → ((t : ℕ) (image : Image) (c : Content) (mark : ℕ) → now.host.left t image → ((key : List ℕ) → HasReading (IsCounted image) key (read_in c key)) → IsMark image mark → now.store.whole t c mark)
     → ((t : ℕ) (image : Image) → now.store.opens t → now.host.left t image → IsSound image)
     → Serves status.Done from now.host course
-serves_whole from mid course now result finished is owns read may opens = record {
-  ends = finished_whole course true mid now (subst (λ (r : Result Unit Status). Finished mid course true now r) is finished);
-  others = subst (λ (o : FileName → Bool). Leaves o false from now.host) owns (others_all from mid now.host now.facts.owns read finished.holds.others);
-  holds = run_holds from mid course now read may opens finished.holds;
-}
+serves_whole from mid course now result finished is owns read whole opens =
+    serves_by status.Done from now.host course
+    (finished_whole course true mid now (subst (λ (r : Result Unit Status). Finished mid course true now r) is finished))
+    (subst (λ (o : FileName → Bool). Leaves o false from now.host) owns (others_all from mid now.host now.facts.owns read finished.holds.others))
+    (run_holds from mid course now read whole opens finished.holds)
 
 pub serves_early : (from mid : HostState) (course : Course) (now : View) (ended : Status) (result : Result Unit Status)
     → Finished mid course true now result → result ≡ Err ended
     → now.facts.owns ≡ owns_file
     → IsRead from mid → course.said ≡ from.said from.turn
     → ((s : Spent) → now.store.spent s → (s ≡ Sequence (2 ^ 62)) ⊎ (s ≡ Files (2 ^ 32 - 1)))
-    → ((t : ℕ) (image : Image) (key : List ℕ) (r : Reading) (mark : ℕ) → now.host.left t image → HasReading (IsCounted image) key r → IsMark image mark → now.store.may t key r mark)
+    → ((t : ℕ) (image : Image) (c : Content) (mark : ℕ) → now.host.left t image → ((key : List ℕ) → HasReading (IsCounted image) key (read_in c key)) → IsMark image mark → now.store.whole t c mark)
     → ((t : ℕ) (image : Image) → now.store.opens t → now.host.left t image → IsSound image)
     → Serves ended from now.host course
-serves_early from mid course now ended result finished same owns read said is may opens = record {
-  ends = finished_early course true mid now ended (read_said from mid read ∙ sym said) is (subst (λ (r : Result Unit Status). Finished mid course true now r) same finished);
-  others = subst (λ (o : FileName → Bool). Leaves o false from now.host) owns (others_all from mid now.host now.facts.owns read finished.holds.others);
-  holds = run_holds from mid course now read may opens finished.holds;
-}
+serves_early from mid course now ended result finished same owns read said is whole opens =
+    serves_by ended from now.host course
+    (finished_early course true mid now ended (read_said from mid read ∙ sym said) is (subst (λ (r : Result Unit Status). Finished mid course true now r) same finished))
+    (subst (λ (o : FileName → Bool). Leaves o false from now.host) owns (others_all from mid now.host now.facts.owns read finished.holds.others))
+    (run_holds from mid course now read whole opens finished.holds)
 
 -- a run that read the files and did no more
 pub serves_read : (from mid : HostState) (course : Course) (ended : Status) → course.said ≡ from.said from.turn → IsRead from mid
     → (mid.said mid.turn ≡ course.said → Ends ended course mid) → Serves ended from mid course
-serves_read from mid course ended said read ends = record {
-  ends = ends (read_said from mid read ∙ sym said);
-  others = leaves_all from mid owns_file false read.files read.images;
-  holds = read_holds from mid course read;
-}
+serves_read from mid course ended said read ends =
+    serves_by ended from mid course
+    (ends (read_said from mid read ∙ sym said))
+    (leaves_all from mid owns_file false read.files read.images)
+    (read_holds from mid course read)
 
 -- nothing was done
 pub stands_read : (a b : HostState) → Stands a b → IsRead a b
@@ -403,11 +436,11 @@ pub serves_damage : (from mid to : HostState) (course : Course) (damage : Damage
     → from.left from.turn from.files
     → IsRead from mid → IsStill mid to
     → IsFirstDamageOf from.files damage → TellsDamage ended damage mid to → Serves ended from to course
-serves_damage from mid to course damage ended files said reads read still first tells = record {
-  ends = told_damage from mid to course damage ended files said read still first tells;
-  others = others_all from mid to owns_file read (leaves_all mid to owns_file false still.files still.images);
-  holds = never_damaged from to course damage reads first;
-}
+serves_damage from mid to course damage ended files said reads read still first tells =
+    serves_by ended from to course
+    (told_damage from mid to course damage ended files said read still first tells)
+    (others_all from mid to owns_file read (leaves_all mid to owns_file false still.files still.images))
+    (never_damaged from to course damage reads first)
 
 -- the files as they read are one of the images, at another host that stands so
 pub reads_before : (a b : HostState) → Stands a b → b.left b.turn b.files → (i : Image) × a.left a.turn i × SameFiles a.files i
@@ -417,9 +450,9 @@ reads_before a b stands left = (b.files, stands.past a.turn b.files (omega arith
 pub still_files : (a b : HostState) → Stands a b → SameFiles a.files b.files
 still_files a b stands = stands.files
 
--- a store was opened by the default settings, from the same files
-pub started_by : (a b : Image) (settings : Settings) (facts : StoreFacts) (state : StoreState) (mark : ℕ) → settings ≡ default_settings → SameFiles a b → IsStarted b settings facts state mark → IsStarted a default_settings facts state mark
-started_by a b settings facts state mark defaults same started = started_same a b default_settings facts state mark same (subst (λ (s : Settings). IsStarted b s facts state mark) defaults started)
+pub opened_by : (settings : Settings) (from mid : HostState) (facts : StoreFacts) (state : StoreState) (mark : ℕ) → IsRead from mid → IsStarted from.files settings facts state mark → IsSettled facts state mid.turn → IsOpenedFrom settings from mid facts state mark
+opened_by settings from mid facts state mark read started settled = record { read = read; started = started; settled = settled }
 
-pub opened_by : (from mid : HostState) (facts : StoreFacts) (state : StoreState) (mark : ℕ) → IsRead from mid → IsStarted from.files default_settings facts state mark → IsSettled facts state mid.turn → IsOpenedFrom from mid facts state mark
-opened_by from mid facts state mark read started settled = record { read = read; started = started; settled = settled }
+-- the store's own ranges are among those of all settings
+pub store_in_range : (settings : Settings) → AreInRange settings → IsInRangeOfStore settings
+store_in_range settings range = record { file_size = range.file_size.1; bits = range.hash_bits }

@@ -365,7 +365,7 @@ reads_as plain log base key r mark n m opening alike le =
     ∙ last_seen m front (read_in base key) (get plain.entries key) (opening_same plain base key m opening)
     ∙ ap (visible_at m) (sym (ap (λ (l : List KeyChange). entry_after (get plain.entries key) l (length front)) split ∙ entry_after-front (get plain.entries key) front (of_key key (drop n log))))
 
-front_within : (key : List ℕ) (log : List Change) (n : ℕ) → length (of_key key (take n log)) ≤ length (of_key key log)
+pub front_within : (key : List ℕ) (log : List Change) (n : ℕ) → length (of_key key (take n log)) ≤ length (of_key key log)
 front_within key log n = omega (arith, ap (λ (l : List KeyChange). length l) (ap (of_key key) (sym (take-append-drop n log)) ∙ of_key-append key (take n log) (drop n log)), length-append (of_key key (take n log)) (of_key key (drop n log)))
 
 pub to_prefix : (synced : Bool) (plain : Plain) (done hand : List Command) (log : List Change) (base : Content) (key : List ℕ) (r : Reading) (mark : ℕ)

@@ -6,7 +6,7 @@ use Rattle.cache_model.specs.declared.replies.Status.TheVariants as status
 use Rattle.cache_model.specs.Images.{IsSound}
 use Rattle.cache_disk.specs.State.{HostState, SameFiles, Moves}
 use Rattle.cache_disk.specs.Calls.{AllLeft, and_then_said}
-use Rattle.cache_model.specs.Settings.{default_settings}
+use Rattle.cache_model.specs.declared.settings.Settings.{Settings}
 use Rattle.store_trait.specs.Meaning.{StoreFacts, StoreState}
 use Rattle.store_trait.specs.Keeping.{Leaves, IsSettled}
 use Rattle.soft_index.specs.Index.{IsRead, IsStarted}
@@ -14,15 +14,23 @@ use Rattle.soft_index.specs.Store.{owns_file}
 use Rattle.cache_script.specs.Damages.{damage_line}
 use Rattle.cache_cli.specs.Ends.{Ends}
 use Rattle.cache_cli.specs.Run.{IsLost}
-use Rattle.cache_cli.specs.Talk.{Course, HoldsThroughout}
+use Rattle.cache_cli.specs.Talk.{Course, HoldsThroughout, HoldsTogether}
 
--- a run that begins on a host, from a moment on, with these lines; each change is synced before it is answered
+-- a run by these settings that begins on a host, from a moment on, with these lines
+abbrev pub course_by : Settings → HostState → ℕ → List (List ℕ) → Course
+course_by settings from given lines = record { files = from.files; said = from.said from.turn; given = given; lines = lines; synced = settings.sync_writes }
+
+-- the same by the default settings, so that each change is synced before it is answered
 abbrev pub course_of : HostState → ℕ → List (List ℕ) → Course
 course_of from given lines = record { files = from.files; said = from.said from.turn; given = given; lines = lines; synced = true }
 
 -- where no image that might be left at the beginning is damaged, each image since holds
 abbrev pub HoldsFrom : HostState → HostState → Course → Type 0
 HoldsFrom from to course = AllLeft from (λ image. IsSound image) → HoldsThroughout from to course
+
+-- the same of all keys together
+abbrev pub HoldsTogetherFrom : HostState → HostState → Course → Type 0
+HoldsTogetherFrom from to course = AllLeft from (λ image. IsSound image) → HoldsTogether from to course
 
 -- Every file and each image stays, and what was said.
 pub record IsStill (from to : HostState) : Type 0 where
@@ -37,13 +45,18 @@ TellsDamage status.NoMemory damage from to = to.said to.turn ≡ from.said from.
 TellsDamage ended damage from to = ⊥
 
 -- A store was opened on files that were read: it has their content and mark, and only its content is possible.
-pub record IsOpenedFrom (from now : HostState) (facts : StoreFacts) (state : StoreState) (mark : ℕ) : Type 0 where
+pub record IsOpenedFrom (settings : Settings) (from now : HostState) (facts : StoreFacts) (state : StoreState) (mark : ℕ) : Type 0 where
   pub read : IsRead from now
-  pub started : IsStarted from.files default_settings facts state mark
+  pub started : IsStarted from.files settings facts state mark
   pub settled : IsSettled facts state now.turn
 
--- A run ended: what it said, what holds of other files than the store's, and what a crash might leave at each turn.
+-- What a run that ended comes to.
 pub record Serves (ended : Status) (from to : HostState) (course : Course) : Type 0 where
+  -- what it said, by the status
   pub ends : Ends ended course to
+  -- files that aren't the store's are left alone, as they read and in what a crash may leave
   pub others : Leaves owns_file false from to
-  pub holds : HoldsFrom from to course
+  -- what a crash may leave at each turn, key by key
+  pub crash : HoldsFrom from to course
+  -- the same of all keys together
+  pub cut : HoldsTogetherFrom from to course

@@ -1,6 +1,7 @@
 -- A talk: what a run says, and what a crash may leave at each turn of it.
-use Rattle.std.specs.Prelude.{◌≡◌, ◌⊎◌, ◌||◌, Bool, true, false, ℕ, ◌≤◌, List, [], ◌∷◌, ◌++◌, Option, Some, None}
+use Rattle.std.specs.Prelude.{◌≡◌, ◌⊎◌, ◌||◌, Bool, true, false, ℕ, ◌≤◌, List, [], ◌∷◌, ◌++◌, take, length, Option, Some, None}
 use Rattle.std.specs.List.{list_any}
+use Rattle.cache_model.specs.declared.entries.Change.{Change}
 use Rattle.cache_model.specs.declared.commands.Command.{Command}
 use Rattle.cache_model.specs.declared.commands.Command.TheVariants.{Stop}
 use Rattle.cache_model.specs.Files.{Image}
@@ -14,7 +15,8 @@ use Rattle.cache_model.specs.Prefix.{FitsPrefix}
 use Rattle.cache_disk.specs.State.{HostState}
 use Rattle.cache_disk.specs.Calls.{and_then_said}
 use Rattle.store_trait.specs.Meaning.{Numbers}
-use Rattle.cache_cli.specs.Fitting.{promised_of}
+use Rattle.cache_session.specs.Changing.{of_key}
+use Rattle.cache_cli.specs.Fitting.{promised_of, IsLog}
 
 -- What a run is about: the files as they read when it began, what was said by then, the moment that was given, the lines of
 -- the script, and whether each change is synced before it is answered.
@@ -94,6 +96,21 @@ pub record FitsTalk (course : Course) (said : List ℕ) (image : Image) : Type 0
   pub says : Some said ≡ and_then_said course.said (text_of talk)
   pub fits : (key : List ℕ) → FitsPrefix image talk.opening (done_in talk ++ hand_of (is_over talk) left) (promised_of course.synced talk.opening (done_in talk) key) key
 
+-- What was said is a talk, and all keys of the image together read as after the first so many of all changes by the
+-- commands that were done and the one in hand, in the order of the commands: each key as after those of them that are its
+-- own, which hold every change of it that an answer promised.
+pub record FitsTalkTogether (course : Course) (said : List ℕ) (image : Image) : Type 0 where
+  pub talk : Talk
+  pub left : List (List ℕ)
+  pub is_talk : IsTalk talk course left
+  pub says : Some said ≡ and_then_said course.said (text_of talk)
+  pub log : List Change
+  pub is_log : IsLog talk.opening (done_in talk ++ hand_of (is_over talk) left) log
+  pub count : ℕ
+  pub within : count ≤ length log
+  pub fits : (key : List ℕ) → (fit : FitsPrefix image talk.opening (done_in talk ++ hand_of (is_over talk) left) (promised_of course.synced talk.opening (done_in talk) key) key)
+      × (fit.count ≡ length (of_key key (take count log)))
+
 -- nothing was said yet, and the image has the records of one that a crash might have left when the call began
 pub record IsUntouched (from : HostState) (said : Option (List ℕ)) (image : Image) : Type 0 where
   pub silent : said ≡ from.said from.turn
@@ -111,3 +128,13 @@ HoldsAtTurn from course (Some said) image = IsSound image × (IsUntouched from (
 pub record HoldsThroughout (from to : HostState) (course : Course) : Type 0 where
   pub later : from.turn ≤ to.turn
   pub each : (t : ℕ) (image : Image) → from.turn ≤ t → t ≤ to.turn → to.left t image → HoldsAtTurn from course (to.said t) image
+
+-- the same of all keys together
+abbrev pub HoldsTogetherAtTurn : HostState → Course → Option (List ℕ) → Image → Type 0
+HoldsTogetherAtTurn from course None image = IsSound image
+HoldsTogetherAtTurn from course (Some said) image = IsSound image × (IsUntouched from (Some said) image ⊎ FitsTalkTogether course said image)
+
+-- it holds of all keys together at every turn of a run, from its first to its last
+pub record HoldsTogether (from to : HostState) (course : Course) : Type 0 where
+  pub later : from.turn ≤ to.turn
+  pub each : (t : ℕ) (image : Image) → from.turn ≤ t → t ≤ to.turn → to.left t image → HoldsTogetherAtTurn from course (to.said t) image

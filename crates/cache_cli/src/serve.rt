@@ -2,6 +2,7 @@
 ghost use Rattle.std.specs.Prelude.{◌≡◌, ◌⊎◌, ◌^◌, ◌<◌, ◌≤◌, [], ℕ, Bool, List, map, string_bytes, false, true, Some, None, max, if◌then◌else◌, nat_lt, IsTrue, IfErr};
 ghost use Rattle.cache_model.specs.Lines.{lines_of};
 ghost use Rattle.cache_model.specs.Images.{IsSound};
+ghost use Rattle.cache_model.specs.Settings.{AreInRange};
 ghost use Rattle.cache_model.specs.declared.replies.Status.TheVariants as status;
 ghost use Rattle.cache_disk.specs.State.{Stands};
 ghost use Rattle.cache_disk.specs.Calls.{AllLeft};
@@ -11,11 +12,11 @@ ghost use Rattle.soft_index.specs.Store.{owns_file};
 ghost use Rattle.cache_session.specs.Turns.{store_of, moment_of, is_broken, IsFit};
 ghost use Rattle.cache_cli.specs.Causes.{CauseOf, HostCauseOf, HasHostCause, HasCause};
 ghost use Rattle.cache_cli.specs.Foreign.{IsForeign};
-ghost use Rattle.cache_cli.specs.Talk.{Course, HoldsThroughout};
+ghost use Rattle.cache_cli.specs.Talk.{Course, HoldsThroughout, HoldsTogether};
 ghost use Rattle.cache_cli.specs.Run.{view, view_by};
 ghost use Rattle.cache_cli.specs.Opening.{Begins, Finished};
 ghost use Rattle.cache_cli.specs.Ends.{IsUnused, Ends, EndsForeign, EndsRefused};
-ghost use Rattle.cache_cli.specs.Serving.{course_of, Serves};
+ghost use Rattle.cache_cli.specs.Serving.{course_of, course_by, Serves};
 ghost use Rattle.cache_cli.specs.Words.{words_moment};
 
 use crate::foreign::is_foreign;
@@ -54,11 +55,52 @@ pub fn serve<H: Host, I: Source>(
     ensures crash { IsTrue H.tells → IsTrue I.tells → (given : ℕ) → words_moment (map string_bytes words.now) ≡ Some given
         → AllLeft (H.state host.old) (λ image. IsSound image)
         → HoldsThroughout (H.state host.old) (H.state host.new) (course_of (H.state host.old) given (lines_of (I.rest script.old))) }
+    // The same of all keys together: they read as after one number of all changes.
+    ensures cut { IsTrue H.tells → IsTrue I.tells → (given : ℕ) → words_moment (map string_bytes words.now) ≡ Some given
+        → AllLeft (H.state host.old) (λ image. IsSound image)
+        → HoldsTogether (H.state host.old) (H.state host.new) (course_of (H.state host.old) given (lines_of (I.rest script.old))) }
     // A failure only where its count rose, and no other answer where one did.
     ensures cause { CauseOf result (H.state host.old) (H.state host.new) (I.faults script.old) (I.faults script.new) }
 {
     match moment_of(words) {
-        Some(given) => serve_from(alloc, given, host, script),
+        Some(_) => match Settings::defaults(alloc) {
+            Ok(settings) => serve_with(alloc, words, &settings, host, script),
+            Err(_) => Status::NoMemory,
+        },
+        None => Status::Usage,
+    }
+}
+
+/// The same by settings that are handed in: `file_size`, `sync_writes` and `hash_bits` are in force.
+///
+/// Where changes aren't synced at once, only `sync` and `stop` promise them: a crash may leave a key as after any prefix
+/// of its changes from the last such answer on.
+pub fn serve_with<H: Host, I: Source>(
+    alloc: Global,
+    words: &[String],
+    settings: &Settings,
+    host: &mut H,
+    script: &mut I,
+) -> Status
+    requires range { AreInRange settings.now }
+    // Other words than `--at` and a moment.
+    ensures usage { words_moment (map string_bytes words.now) ≡ None
+        → (result ≡ status.Usage) × (IsTrue H.tells → IsUnused (course_by settings.now (H.state host.old) 0 []) (H.state host.new)) }
+    // With good words: a directory with other files than data files.
+    ensures foreign { IsTrue H.tells → IsForeign (H.state host.old).files → (given : ℕ) → words_moment (map string_bytes words.now) ≡ Some given → EndsForeign result }
+    // With good words: a directory that is damaged is refused.
+    ensures refused { IsTrue H.tells → (IsForeign (H.state host.old).files → ⊥) → (IsSound (H.state host.old).files → ⊥)
+        → (given : ℕ) → words_moment (map string_bytes words.now) ≡ Some given → EndsRefused result }
+    // With good words: what is said, by the status, and what a crash may leave at each turn.
+    ensures serves { IsTrue H.tells → IsTrue I.tells → (given : ℕ) → words_moment (map string_bytes words.now) ≡ Some given
+        → Serves result (H.state host.old) (H.state host.new) (course_by settings.now (H.state host.old) given (lines_of (I.rest script.old))) }
+    // Files that aren't the store's are left alone, as they read and in what a crash may leave.
+    ensures others { IsTrue H.tells → IsTrue I.tells → Leaves owns_file false (H.state host.old) (H.state host.new) }
+    // A failure only where its count rose, and no other answer where one did.
+    ensures cause { CauseOf result (H.state host.old) (H.state host.new) (I.faults script.old) (I.faults script.new) }
+{
+    match moment_of(words) {
+        Some(given) => serve_from(alloc, given, settings, host, script),
         None => Status::Usage,
     }
 }
@@ -71,16 +113,23 @@ fn start_moment(given: u64, mark: u64) -> u64
 }
 
 // Runs the store on a script from a moment on, where the directory holds data files alone.
-fn serve_from<H: Host, I: Source>(alloc: Global, given: u64, host: &mut H, script: &mut I) -> Status
-    requires { given < 2 ^ 61 }
+fn serve_from<H: Host, I: Source>(
+    alloc: Global,
+    given: u64,
+    settings: &Settings,
+    host: &mut H,
+    script: &mut I,
+) -> Status
+    requires given { given < 2 ^ 61 }
+    requires range { AreInRange settings.now }
     ensures foreign { IsTrue H.tells → IsForeign (H.state host.old).files → EndsForeign result }
     ensures refused { IsTrue H.tells → (IsForeign (H.state host.old).files → ⊥) → (IsSound (H.state host.old).files → ⊥) → EndsRefused result }
     ensures serves { IsTrue H.tells → IsTrue I.tells
-        → Serves result (H.state host.old) (H.state host.new) (course_of (H.state host.old) given (lines_of (I.rest script.old))) }
+        → Serves result (H.state host.old) (H.state host.new) (course_by settings.now (H.state host.old) given (lines_of (I.rest script.old))) }
     ensures cause { CauseOf result (H.state host.old) (H.state host.new) (I.faults script.old) (I.faults script.new) }
 {
     match is_foreign(host) {
-        Ok(false) => serve_store(alloc, given, host, script),
+        Ok(false) => serve_store(alloc, given, settings, host, script),
         Ok(true) => Status::Usage,
         Err(status) => status,
     }
@@ -90,19 +139,18 @@ fn serve_from<H: Host, I: Source>(alloc: Global, given: u64, host: &mut H, scrip
 fn serve_store<H: Host, I: Source>(
     alloc: Global,
     given: u64,
+    settings: &Settings,
     host: &mut H,
     script: &mut I,
 ) -> Status
-    requires { given < 2 ^ 61 }
+    requires given { given < 2 ^ 61 }
+    requires range { AreInRange settings.now }
     ensures refused { IsTrue H.tells → (IsSound (H.state host.old).files → ⊥) → EndsRefused result }
     ensures serves { IsTrue H.tells → IsTrue I.tells → (from : H) → Stands (H.state from) (H.state host.old)
-        → Serves result (H.state from) (H.state host.new) (course_of (H.state from) given (lines_of (I.rest script.old))) }
+        → Serves result (H.state from) (H.state host.new) (course_by settings.now (H.state from) given (lines_of (I.rest script.old))) }
     ensures cause { CauseOf result (H.state host.old) (H.state host.new) (I.faults script.old) (I.faults script.new) }
 {
-    let Ok(settings) = Settings::defaults(alloc) else {
-        return Status::NoMemory;
-    };
-    match SoftIndex::start(alloc, host, 0, &settings, |_key: &Key| true) {
+    match SoftIndex::start(alloc, host, 0, settings, |_key: &Key| true) {
         Ok((store, mark)) => {
             let ran = run_store(alloc, store, start_moment(given, mark), host, script);
             match ran.result {

@@ -3,21 +3,24 @@ use Rattle.cache_model.specs.declared.faults.StoreFault.{StoreFault}
 use Rattle.cache_model.specs.Lines.{lines_of}
 use Rattle.store_trait.specs.Meaning.{Numbers}
 use Rattle.cache_session.specs.Turns.{store_of}
-use Rattle.cache_cli.specs.Serving.{course_of}
-use Rattle.cache_cli.proofs.Serving.{still_then, started_by, opened_by, begins, sequence_le, file_le, stands_read, later_of, later_fits, serves_whole, serves_early, serves_read, serves_damage, index_spent}
+use Rattle.cache_cli.specs.Serving.{course_by}
+use Rattle.cache_cli.proofs.Serving.{still_then, started_same, opened_by, begins, sequence_le, file_le, later_of, later_fits, serves_whole, serves_early, serves_damage, index_spent, store_in_range}
 use Rattle.cache_cli.proofs.Same.{damage_same}
 use Rattle.cache_cli.proofs.serve.serve_store.Goals as goal
 
+pub start-requires-clause-settings : goal.start-requires-clause-settings
+start-requires-clause-settings g c = store_in_range c.args.settings.now c.requires.range
+
 pub run_store-ran-requires-clause-ready : goal.run_store-ran-requires-clause-ready
 run_store-ran-requires-clause-ready g c = record {
-  unspoilt = c.in-Ok-start.ensures.ready.unspoilt;
-  usable = c.in-Ok-start.ensures.ready.usable;
-  late = omega (arith, c.in-Ok-start.ensures.ready.late, later_of c.start_moment.result c.args.given c.in-Ok-start.mark c.start_moment.ensures);
-  moment_fits = later_fits c.start_moment.result c.args.given c.in-Ok-start.mark c.start_moment.ensures c.requires c.in-Ok-start.ensures.ready.moment_fits;
+  unspoilt = c.in-Ok.ensures.ready.unspoilt;
+  usable = c.in-Ok.ensures.ready.usable;
+  late = omega (arith, c.in-Ok.ensures.ready.late, later_of c.start_moment.result c.args.given c.in-Ok.mark c.start_moment.ensures);
+  moment_fits = later_fits c.start_moment.result c.args.given c.in-Ok.mark c.start_moment.ensures c.requires.given c.in-Ok.ensures.ready.moment_fits;
 }
 
 pub run_store-ran-requires-clause-stands : goal.run_store-ran-requires-clause-stands
-run_store-ran-requires-clause-stands g c = λ tells. (c.in-Ok-start.ensures.started tells).stands
+run_store-ran-requires-clause-stands g c = λ tells. (c.in-Ok.ensures.started tells).stands
 
 pub returns-in-Ok-result-clause-serves : goal.returns-in-Ok-result-clause-serves
 returns-in-Ok-result-clause-serves g c = λ tells told from stands.
@@ -25,41 +28,37 @@ returns-in-Ok-result-clause-serves g c = λ tells told from stands.
     let a = g.H.Host.state c.args.host.now in
     let mid = g.H.Host.state c.start.new.host in
     let lines = lines_of (g.I.Source.rest c.args.script.now) in
-    let course = course_of start c.args.given lines in
-    let store = c.in-Ok-start.store in
+    let course = course_by c.args.settings.now start c.args.given lines in
+    let store = c.in-Ok.store in
     let numbers : Numbers = record { sequence = store.log.next; file = store.log.file } in
-    let read = still_then start a mid stands (c.in-Ok-start.ensures.read tells) in
-    let started = started_by start.files a.files c.in-Ok.settings _ _ c.in-Ok-start.mark c.in-Ok.ensures.defaults stands.files (c.in-Ok-start.ensures.started tells) in
-    let opened = opened_by start mid _ _ c.in-Ok-start.mark read started (c.in-Ok-start.ensures.settled tells) in
+    let read = still_then start a mid stands (c.in-Ok.ensures.read tells) in
+    let started = started_same start.files a.files c.args.settings.now _ _ c.in-Ok.mark stands.files (c.in-Ok.ensures.started tells) in
+    let opened = opened_by c.args.settings.now start mid _ _ c.in-Ok.mark read started (c.in-Ok.ensures.settled tells) in
     let finished = c.run_store-ran.ensures.finished tells told course true refl
-    (begins start mid c.args.given c.start_moment.result c.in-Ok-start.mark lines _ _ opened
+    (begins c.args.settings.now start mid c.args.given c.start_moment.result c.in-Ok.mark lines _ _ opened
     (sequence_le numbers opened.started.numbers.0 opened.started.numbers.1)
     (file_le store.log.log store.log.file numbers opened.started.numbers.0 opened.started.parts refl opened.started.numbers.1)
     tt refl c.start_moment.ensures) in
-    serves_whole start mid course _ _ finished c.in-Ok-result.is refl read (λ t image key r mark left reads marked. inl (record { image = image; left = left; reads = reads; marked = marked })) (λ t image opens left. opens image left)
+    serves_whole start mid course _ _ finished c.in-Ok-result.is refl read (λ t image content mark left reads marked. inl (record { image = image; left = left; reads = reads; marked = marked })) (λ t image opens left. opens image left)
 
-pub returns-in-Ok-start-clause-serves : goal.returns-in-Ok-start-clause-serves
-returns-in-Ok-start-clause-serves g c = λ tells told from stands.
+pub returns-in-Ok-clause-serves : goal.returns-in-Ok-clause-serves
+returns-in-Ok-clause-serves g c = λ tells told from stands.
     let start = g.H.Host.state from in
     let a = g.H.Host.state c.args.host.now in
     let mid = g.H.Host.state c.start.new.host in
     let lines = lines_of (g.I.Source.rest c.args.script.now) in
-    let course = course_of start c.args.given lines in
-    let store = c.in-Ok-start.store in
+    let course = course_by c.args.settings.now start c.args.given lines in
+    let store = c.in-Ok.store in
     let numbers : Numbers = record { sequence = store.log.next; file = store.log.file } in
-    let read = still_then start a mid stands (c.in-Ok-start.ensures.read tells) in
-    let started = started_by start.files a.files c.in-Ok.settings _ _ c.in-Ok-start.mark c.in-Ok.ensures.defaults stands.files (c.in-Ok-start.ensures.started tells) in
-    let opened = opened_by start mid _ _ c.in-Ok-start.mark read started (c.in-Ok-start.ensures.settled tells) in
+    let read = still_then start a mid stands (c.in-Ok.ensures.read tells) in
+    let started = started_same start.files a.files c.args.settings.now _ _ c.in-Ok.mark stands.files (c.in-Ok.ensures.started tells) in
+    let opened = opened_by c.args.settings.now start mid _ _ c.in-Ok.mark read started (c.in-Ok.ensures.settled tells) in
     let finished = c.run_store-ran.ensures.finished tells told course true refl
-    (begins start mid c.args.given c.start_moment.result c.in-Ok-start.mark lines _ _ opened
+    (begins c.args.settings.now start mid c.args.given c.start_moment.result c.in-Ok.mark lines _ _ opened
     (sequence_le numbers opened.started.numbers.0 opened.started.numbers.1)
     (file_le store.log.log store.log.file numbers opened.started.numbers.0 opened.started.parts refl opened.started.numbers.1)
     tt refl c.start_moment.ensures) in
-    serves_early start mid course _ c.in-Err.status _ finished c.in-Err.is refl read refl (λ s spent. index_spent (store_of c.run_store-ran.result.session).log s spent) (λ t image key r mark left reads marked. inl (record { image = image; left = left; reads = reads; marked = marked })) (λ t image opens left. opens image left)
-
-pub returns-in_default-clause-serves : goal.returns-in_default-clause-serves
-returns-in_default-clause-serves g c = λ tells told from stands.
-    serves_read (g.H.Host.state from) (g.H.Host.state c.args.host.now) (course_of (g.H.Host.state from) c.args.given (lines_of (g.I.Source.rest c.args.script.now))) _ refl (stands_read (g.H.Host.state from) (g.H.Host.state c.args.host.now) stands) (λ silent. inl silent)
+    serves_early start mid course _ c.in-Err.status _ finished c.in-Err.is refl read refl (λ s spent. index_spent (store_of c.run_store-ran.result.session).log s spent) (λ t image content mark left reads marked. inl (record { image = image; left = left; reads = reads; marked = marked })) (λ t image opens left. opens image left)
 
 pub returns-clause-serves : goal.returns-clause-serves
 returns-clause-serves g c = λ tells told from stands.
@@ -67,6 +66,6 @@ returns-clause-serves g c = λ tells told from stands.
     let a = g.H.Host.state c.args.host.now in
     let mid = g.H.Host.state c.start.new.host in
     let damage = c.in-Err-Damaged.damage in
-    serves_damage start mid (g.H.Host.state c.tell_damage.new.host) (course_of start c.args.given (lines_of (g.I.Source.rest c.args.script.now))) damage c.tell_damage.result refl refl
+    serves_damage start mid (g.H.Host.state c.tell_damage.new.host) (course_by c.args.settings.now start c.args.given (lines_of (g.I.Source.rest c.args.script.now))) damage c.tell_damage.result refl refl
     (g.met.H.Host.reads_now from tells) (still_then start a mid stands (c.in-Err-Damaged.ensures.read tells)) (c.tell_damage.ensures.still tells)
     (damage_same start.files a.files stands.files damage (c.in-Err-Damaged.ensures.damaged tells damage (ap (λ (f : StoreFault). Err f) c.in-Err-Damaged.field-0-is))) (c.tell_damage.ensures.tells tells)
