@@ -22,7 +22,7 @@ use Rattle.cache_session.proofs.Visible.{visible_any, visible_once, same_bytes, 
 use Rattle.std.proofs.lemmas.List.{append-nil}
 use Rattle.cache_model.specs.declared.commands.Command.TheVariants.{Clear}
 use Rattle.cache_model.specs.declared.replies.Reply.TheVariants.{Cleared}
-use Rattle.cache_session.specs.Turns.{Did, Turns}
+use Rattle.cache_session.specs.Turns.{Did, by_changes, Turns}
 use Rattle.cache_session.specs.Walks.{removal_of, ClearedOne}
 use Rattle.cache_session.proofs.Changing.{last_of, read_after, of_key-append}
 use Rattle.cache_session.proofs.Turning.{did_nothing, turns_by, calm_clear}
@@ -34,7 +34,7 @@ IsClearing moment content changes = (key : List ℕ) → (of_key key changes ≡
 -- so many visible keys were removed, and what is visible still stands behind the last of them
 pub record Clearing (f g : StoreFacts) (old new : StoreState) (before after : HostState) (moment count : ℕ) (last : Option (List ℕ)) : Type 0 where
   pub changes : List Change
-  pub did : Did {T = Unit {0}} 0 f g g.spoilt old new before after moment changes (Ok tt)
+  pub did : Did {T = Unit {0}} by_changes f g g.spoilt old new before after moment changes (Ok tt)
   pub each : IsClearing moment old.content changes
   pub count_is : length changes ≡ count
   pub behind : (key : List ℕ) → IsSome (seen moment (read_in new.content key)) → follows f.bits last key ≡ true
@@ -109,7 +109,7 @@ goes f g h s t u a b c m n last next same same2 so one = by one.next refl
         never e = cc
     by (Some key) is =
         let visible : is_some (seen m (read_in t.content key)) ≡ true = one.visible key is in
-        let did : Did {T = Bool} 0 g h h.spoilt t u b c m (Remove key ∷ []) (Ok true) = subst (λ (o : Option (List ℕ)). Did {T = Bool} 0 g h h.spoilt t u b c m (removal_of o) (Ok true)) is one.did in
+        let did : Did {T = Bool} by_changes g h h.spoilt t u b c m (Remove key ∷ []) (Ok true) = subst (λ (o : Option (List ℕ)). Did {T = Bool} by_changes g h h.spoilt t u b c m (removal_of o) (Ok true)) is one.did in
         record {
           changes = so.changes ++ Remove key ∷ [];
           did = did_more f g h g.spoilt h.spoilt s t u a b c m so.changes (Remove key ∷ []) (Ok tt) same tt so.did same2 (did_ok g h h.spoilt t u b c m (Remove key ∷ []) true tt did) (λ of unspoilt. absurd (ok_no_fault tt fault.Memory of));
@@ -176,9 +176,9 @@ same_some x y h = cc
 
 pub cleared_ok : {T V : Type 0} (f g h : StoreFacts) (s t u : StoreState) (a b c : HostState) (m : ℕ) (last next : Option (List ℕ)) (key : List ℕ) (x : T) (y : V)
     → SameStore f g → SameStore g h
-    → Did {T = T} 0 f g g.spoilt s t a b m [] (Ok x)
+    → Did {T = T} by_changes f g g.spoilt s t a b m [] (Ok x)
     → IsNextKey f.bits m s.content last (Some key)
-    → Did {T = V} 0 g h h.spoilt t u b c m (Remove key ∷ []) (Ok y)
+    → Did {T = V} by_changes g h h.spoilt t u b c m (Remove key ∷ []) (Ok y)
     → next ≡ Some key
     → ClearedOne last next f h s u a c m (Ok true)
 cleared_ok f g h s t u a b c m last next key x y same same2 first is second at = record {
@@ -192,9 +192,9 @@ cleared_ok f g h s t u a b c m last next key x y same same2 first is second at =
 
 pub cleared_err : {T V : Type 0} (f g h : StoreFacts) (s t u : StoreState) (a b c : HostState) (m : ℕ) (last next : Option (List ℕ)) (key : List ℕ) (x : T) (e : StoreFault)
     → SameStore f g → SameStore g h
-    → Did {T = T} 0 f g g.spoilt s t a b m [] (Ok x)
+    → Did {T = T} by_changes f g g.spoilt s t a b m [] (Ok x)
     → IsNextKey f.bits m s.content last (Some key)
-    → Did {T = V} 0 g h h.spoilt t u b c m (Remove key ∷ []) (Err e)
+    → Did {T = V} by_changes g h h.spoilt t u b c m (Remove key ∷ []) (Err e)
     → ClearedOne last next f h s u a c m (Err e)
 cleared_err f g h s t u a b c m last next key x e same same2 first is second = record {
   next = Some key;
@@ -226,7 +226,7 @@ pub stops : (publish : List ℕ) (plain : Plain) (f g h : StoreFacts) (s t u : S
 stops publish plain f g h s t u a b c m n last next e same same2 so one at shows =
     let xs = so.changes ++ removal_of one.next in
     let rest = rest_of xs (visible_keys plain) in
-    let did : Did {T = Bool} 0 f h true s u a c m xs (Err e) =
+    let did : Did {T = Bool} by_changes f h true s u a c m xs (Err e) =
     did_more f g h g.spoilt true s t u a b c m so.changes (removal_of one.next) (Err e) same tt so.did same2
     (spoilt_err g h h.spoilt t u b c m (removal_of one.next) e one.did) (λ of h. absurd (not_so h)) in
     turns_by publish plain Clear f h true s u a c m (xs ++ rest) (Err e) calm_clear at shows
@@ -271,10 +271,10 @@ ends publish plain f g h s t u a b c m n last next broken same same2 so one less
     none : one.next ≡ None
     none = none_left one.next refl
 
-    did : Did {T = Bool} 0 f h h.spoilt s u a c m so.changes (Ok false)
-    did = subst (λ (l : List Change). Did {T = Bool} 0 f h h.spoilt s u a c m l (Ok false)) (append-nil so.changes)
+    did : Did {T = Bool} by_changes f h h.spoilt s u a c m so.changes (Ok false)
+    did = subst (λ (l : List Change). Did {T = Bool} by_changes f h h.spoilt s u a c m l (Ok false)) (append-nil so.changes)
         (did_more f g h g.spoilt h.spoilt s t u a b c m so.changes [] (Ok false) same tt so.did same2
-        (subst (λ (o : Option (List ℕ)). Did {T = Bool} 0 g h h.spoilt t u b c m (removal_of o) (Ok false)) none one.did) (λ of unspoilt. absurd (ok_no_fault false fault.Memory of)))
+        (subst (λ (o : Option (List ℕ)). Did {T = Bool} by_changes g h h.spoilt t u b c m (removal_of o) (Ok false)) none one.did) (λ of unspoilt. absurd (ok_no_fault false fault.Memory of)))
 
     order : IsOrder (removes (visible_keys plain)) so.changes
     order = all_cleared plain f.bits so.changes last s.content t.content shows

@@ -19,7 +19,7 @@ use Rattle.cache_session.specs.declared.conditions.Condition.{Condition}
 use Rattle.cache_session.specs.declared.conditions.Condition.TheVariants.{Unseen, Visible, HasValue}
 use Rattle.cache_session.specs.Changing.{IsOrder, Shows, put_of}
 use Rattle.cache_session.specs.Conditions.{refusal, changes_where, reply_where, WroteWhere}
-use Rattle.cache_session.specs.Turns.{Did, Turns, files_by}
+use Rattle.cache_session.specs.Turns.{Did, Way, by_changes, way_of, Turns}
 use Rattle.cache_session.proofs.Keeping.{did_ok, did_err, did_then, none_err}
 use Rattle.cache_session.proofs.Shown.{order_put, order_remove}
 use Rattle.cache_session.proofs.Turning.{IsCalm, turns_by}
@@ -54,16 +54,16 @@ pub record IsWhere (publish : List ℕ) (plain : Plain) (command : Command) (con
 
 pub turns_where : (publish : List ℕ) (plain : Plain) (command : Command) (condition : Condition) (change : Change) (f g : StoreFacts) (p : Bool) (s t : StoreState) (a b : HostState) (moment : ℕ) (result : Result Reply StoreFault)
     → IsCalm command
-    → files_by command ≡ 0
+    → way_of command ≡ by_changes
     → IsWhere publish plain command condition change
     → plain.moment ≡ moment → Shows plain s.content
     → WroteWhere condition change f g p s t a b moment result
     → Turns publish plain command f g p s t a b result
-turns_where publish plain command condition change f g p s t a b moment result calm files is at shows wrote =
+turns_where publish plain command condition change f g p s t a b moment result calm way is at shows wrote =
     turns_by publish plain command f g p s t a b moment (changes_where refused change) result calm at shows
     (subst (λ (e : Effect). IsOrder e (changes_where refused change)) (sym is.effect) (order_where refused change))
-    (subst (λ (n : ℕ). Did n f g p s t a b moment (changes_where refused change) result) (sym files)
-    (subst (λ (r : Option Reply). Did 0 f g p s t a b moment (changes_where r change) result) same wrote.did))
+    (subst (λ (w : Way). Did w f g p s t a b moment (changes_where refused change) result) (sym way)
+    (subst (λ (r : Option Reply). Did by_changes f g p s t a b moment (changes_where r change) result) same wrote.did))
     (subst (λ (wanted : Option Reply). IfOk result (λ reply. Replies wanted reply)) (sym is.reply)
     (subst (λ (r : Option Reply). IfOk result (λ reply. reply ≡ reply_where r)) same wrote.reply))
   where
@@ -81,20 +81,20 @@ turns_where publish plain command condition change f g p s t a b moment result c
 
 module _ {T : Type 0} (condition : Condition) (change : Change) (f g h : StoreFacts) (s t u : StoreState) (a b c : HostState) (moment : ℕ) (entry : Option Entry)
     (same : SameStore f g)
-    (first : Did {T = Option Entry} 0 f g g.spoilt s t a b moment [] (Ok entry))
+    (first : Did {T = Option Entry} by_changes f g g.spoilt s t a b moment [] (Ok entry))
     (is : entry ≡ seen moment (read_in s.content (key_of change)))
     (holds : refusal condition entry ≡ None)
     (same2 : SameStore g h) where
-  pub wrote : (x : T) → Did {T = T} 0 g h h.spoilt t u b c moment (change ∷ []) (Ok x) → WroteWhere condition change f h h.spoilt s u a c moment (Ok Done)
+  pub wrote : (x : T) → Did {T = T} by_changes g h h.spoilt t u b c moment (change ∷ []) (Ok x) → WroteWhere condition change f h h.spoilt s u a c moment (Ok Done)
   wrote x second = record {
-    did = subst (λ (r : Option Reply). Did {T = Reply} 0 f h h.spoilt s u a c moment (changes_where r change) (Ok Done)) (sym (ap (refusal condition) (sym is) ∙ holds))
+    did = subst (λ (r : Option Reply). Did {T = Reply} by_changes f h h.spoilt s u a c moment (changes_where r change) (Ok Done)) (sym (ap (refusal condition) (sym is) ∙ holds))
         (did_then f g h g.spoilt h.spoilt s t u a b c moment (change ∷ []) (Ok Done) same entry first same2 (did_ok g h h.spoilt t u b c moment (change ∷ []) x Done second));
     reply = ap reply_where (sym (ap (refusal condition) (sym is) ∙ holds));
   }
 
-  pub wrote_not : (e : StoreFault) → Did {T = T} 0 g h h.spoilt t u b c moment (change ∷ []) (Err e) → WroteWhere condition change f h h.spoilt s u a c moment (Err e)
+  pub wrote_not : (e : StoreFault) → Did {T = T} by_changes g h h.spoilt t u b c moment (change ∷ []) (Err e) → WroteWhere condition change f h h.spoilt s u a c moment (Err e)
   wrote_not e second = record {
-    did = subst (λ (r : Option Reply). Did {T = Reply} 0 f h h.spoilt s u a c moment (changes_where r change) (Err e)) (sym (ap (refusal condition) (sym is) ∙ holds))
+    did = subst (λ (r : Option Reply). Did {T = Reply} by_changes f h h.spoilt s u a c moment (changes_where r change) (Err e)) (sym (ap (refusal condition) (sym is) ∙ holds))
         (did_then f g h g.spoilt h.spoilt s t u a b c moment (change ∷ []) (Err e) same entry first same2 (did_err g h h.spoilt t u b c moment (change ∷ []) e second));
     reply = tt;
   }
@@ -102,19 +102,19 @@ module _ {T : Type 0} (condition : Condition) (change : Change) (f g h : StoreFa
 -- it was refused, or the key wasn't read
 
 pub refused : (condition : Condition) (change : Change) (f g : StoreFacts) (s t : StoreState) (a b : HostState) (moment : ℕ) (entry : Option Entry) (reply : Reply)
-    → Did {T = Option Entry} 0 f g g.spoilt s t a b moment [] (Ok entry)
+    → Did {T = Option Entry} by_changes f g g.spoilt s t a b moment [] (Ok entry)
     → entry ≡ seen moment (read_in s.content (key_of change))
     → refusal condition entry ≡ Some reply
     → WroteWhere condition change f g g.spoilt s t a b moment (Ok reply)
 refused condition change f g s t a b moment entry reply first is holds =
     let some : refusal condition (seen moment (read_in s.content (key_of change))) ≡ Some reply = ap (refusal condition) (sym is) ∙ holds in
     record {
-      did = subst (λ (r : Option Reply). Did 0 f g g.spoilt s t a b moment (changes_where r change) (Ok reply)) (sym some) (did_ok f g g.spoilt s t a b moment [] entry reply first);
+      did = subst (λ (r : Option Reply). Did by_changes f g g.spoilt s t a b moment (changes_where r change) (Ok reply)) (sym some) (did_ok f g g.spoilt s t a b moment [] entry reply first);
       reply = ap reply_where (sym some);
     }
 
 pub unread : {T : Type 0} (condition : Condition) (change : Change) (f g : StoreFacts) (s t : StoreState) (a b : HostState) (moment : ℕ) (e : StoreFault)
-    → Did {T = T} 0 f g g.spoilt s t a b moment [] (Err e)
+    → Did {T = T} by_changes f g g.spoilt s t a b moment [] (Err e)
     → WroteWhere condition change f g g.spoilt s t a b moment (Err e)
 unread condition change f g s t a b moment e first = record { did = none_err f g g.spoilt s t a b moment (changes_where (refusal condition (seen moment (read_in s.content (key_of change)))) change) e first; reply = tt }
 

@@ -11,14 +11,14 @@ use Rattle.cache_model.specs.declared.faults.StoreFault.{StoreFault}
 use Rattle.cache_model.specs.declared.faults.StoreFault.TheVariants as fault
 use Rattle.cache_disk.specs.State.{HostState}
 use Rattle.cache_disk.proofs.Runs.{Silent-trans}
-use Rattle.store_trait.specs.Meaning.{Reading, Content, read_in, key_of, entry_of, changed, IsAlike, StoreFacts, StoreState}
+use Rattle.store_trait.specs.Meaning.{Reading, Content, read_in, key_of, entry_of, changed, IsAlike, Row, StoreFacts, StoreState}
 use Rattle.store_trait.specs.Keeping.{Leaves, IsOld, IsNew, IsOldWhole, IsNewWhole, Keeps, IsKept, SameContent, SameStore, IsOnly}
 use Rattle.store_trait.specs.Calls.{Acts, Written, Plainly, IsReady, DrawsNone, DrawsOne, IsNumbered}
 use Rattle.cache_disk.specs.Calls.{HasStoreCause}
 use Rattle.store_trait.proofs.Alike.{alike_trans, alike_later, alike_weaker, alike_sym}
 use Rattle.store_trait.proofs.Runs.{new_weaker, new_of, new_whole_weaker, new_whole_of, leaves_then, opens_then}
 use Rattle.cache_session.specs.Changing.{after_all, of_key, has_some}
-use Rattle.cache_session.specs.Turns.{IsNewBy, IsNewWholeBy, KeepsBy, IsContentAfter, IsUnchanged, Did}
+use Rattle.cache_session.specs.Turns.{IsNewBy, IsNewWholeBy, KeepsBy, IsContentAfter, IsUnchanged, Way, by_changes, MovesBy, PartsBy, IsRoom, Did}
 use Rattle.cache_session.proofs.Numbers.{numbered_then, draws_then, numbered_by}
 use Rattle.cache_session.proofs.Changing.{after_all-append, of_key-append, after_alike, reads_still, has_earlier}
 
@@ -234,14 +234,15 @@ always (Ok x) h = h
 always (Err e) h = tt
 
 -- a call that made no change, answered with the same fault
-pub acts_did : {T U : Type 0} (f g : StoreFacts) (s t : StoreState) (a b : HostState) (moment : ℕ) (one : Result T StoreFault) (two : Result U StoreFault)
+pub acts_did : {T U : Type 0} (way : Way) (f g : StoreFacts) (s t : StoreState) (a b : HostState) (moment : ℕ) (one : Result T StoreFault) (two : Result U StoreFault)
     → ((e : StoreFault) → IsErrOf two e → IsErrOf one e)
     → Acts f g s t a b moment s.content one
     → (OnOk two (SameContent s.content t.content))
     → (IsErrOf two fault.Memory → g.spoilt ≡ false → SameContent s.content t.content)
     → DrawsNone f g
-    → Did 0 f g g.spoilt s t a b moment [] two
-acts_did f g s t a b moment one two faults acts content unchanged draws = record {
+    → OnOk two (PartsBy way f [] f.parts g.parts)
+    → Did way f g g.spoilt s t a b moment [] two
+acts_did way f g s t a b moment one two faults acts content unchanged draws parts = record {
   stands = acts.stands;
   others = acts.others;
   silent = acts.silent;
@@ -251,11 +252,12 @@ acts_did f g s t a b moment one two faults acts content unchanged draws = record
   undamaged = λ is d of. acts.undamaged is d (faults (fault.Damaged d) of);
   spent = λ n of. acts.spent n (faults (fault.Spent n) of);
   content = ok_map (SameContent s.content t.content) (IsContentAfter f moment b.turn [] s t) two (content_same f moment b.turn [] s t) content;
-  refused = λ of unspoilt. record { keeps = keeps_none f a.turn b.turn moment s t acts.keeps; content = content_same f moment b.turn [] s t (unchanged of unspoilt); numbers = draws };
+  refused = λ of unspoilt. record { keeps = keeps_none f a.turn b.turn moment s t acts.keeps; content = content_same f moment b.turn [] s t (unchanged of unspoilt); numbers = draws; parts = inr (acts.room (faults fault.Memory of) unspoilt) };
   firm = λ firm key has. absurd (never has);
   drawn = omega (arith, draws.drawn);
   made = omega (arith, draws.made);
   numbers = always two draws.numbers;
+  parts = parts;
 }
 
 pub same_fault : {T U : Type 0} (x e : StoreFault) → IsErrOf {T = T} (Err x) e → IsErrOf {T = U} (Err x) e
@@ -266,14 +268,14 @@ pub acts_err : {T U : Type 0} (f g : StoreFacts) (s t : StoreState) (a b : HostS
     → Acts {T = T} f g s t a b moment s.content (Err x)
     → SameContent s.content t.content
     → DrawsNone f g
-    → Did {T = U} 0 f g g.spoilt s t a b moment [] (Err x)
-acts_err {T} {U} f g s t a b moment x acts content draws = acts_did f g s t a b moment (Err x) (Err x) (λ e is. same_fault x e is) acts tt (λ of unspoilt. content) draws
+    → Did {T = U} by_changes f g g.spoilt s t a b moment [] (Err x)
+acts_err {T} {U} f g s t a b moment x acts content draws = acts_did by_changes f g s t a b moment (Err x) (Err x) (λ e is. same_fault x e is) acts tt (λ of unspoilt. content) draws tt
 
 -- a call that made one change
 pub written_did : (change : Change) (f g : StoreFacts) (s t : StoreState) (a b : HostState) (moment : ℕ) (result : Result (Unit {0}) StoreFault)
     → Written change f g s t a b moment result
     → DrawsOne f g result
-    → Did 0 f g g.spoilt s t a b moment (change ∷ []) result
+    → Did by_changes f g g.spoilt s t a b moment (change ∷ []) result
 written_did change f g s t a b moment result did draws = record {
   stands = did.acts.stands;
   others = did.acts.others;
@@ -288,11 +290,13 @@ written_did change f g s t a b moment result did draws = record {
     keeps = keeps_none f a.turn b.turn moment s t (did.kept of unspoilt);
     content = content_same f moment b.turn [] s t (did.unchanged of unspoilt);
     numbers = draws.refused of unspoilt;
+    parts = inr (did.acts.room of unspoilt);
   };
   firm = λ firm key has. by firm key (bytes_eq (key_of change) key) refl has;
   drawn = draws.drawn;
   made = omega (arith, draws.made);
   numbers = draws.numbers;
+  parts = ok_map (f.moves change f.parts g.parts) (MovesBy f.moves (change ∷ []) f.parts g.parts) result (λ moved. (g.parts, moved, refl)) did.parts;
 }
   where
     same : (key : List ℕ) → bytes_eq (key_of change) key ≡ true → key_of change ≡ key
@@ -304,8 +308,8 @@ written_did change f g s t a b moment result did draws = record {
 
 -- more
 
-pub did_ok : {T U : Type 0} (f g : StoreFacts) (p : Bool) (s t : StoreState) (a b : HostState) (m : ℕ) (xs : List Change) (x : T) (y : U)
-    → Did {T = T} 0 f g p s t a b m xs (Ok x) → Did {T = U} 0 f g p s t a b m xs (Ok y)
+pub did_ok : {T U : Type 0} {way : Way} (f g : StoreFacts) (p : Bool) (s t : StoreState) (a b : HostState) (m : ℕ) (xs : List Change) (x : T) (y : U)
+    → Did {T = T} way f g p s t a b m xs (Ok x) → Did {T = U} way f g p s t a b m xs (Ok y)
 did_ok f g p s t a b m xs x y did = record {
   stands = did.stands;
   others = did.others;
@@ -321,10 +325,11 @@ did_ok f g p s t a b m xs x y did = record {
   drawn = did.drawn;
   made = did.made;
   numbers = did.numbers;
+  parts = did.parts;
 }
 
-pub did_err : {T U : Type 0} (f g : StoreFacts) (p : Bool) (s t : StoreState) (a b : HostState) (m : ℕ) (xs : List Change) (e : StoreFault)
-    → Did {T = T} 0 f g p s t a b m xs (Err e) → Did {T = U} 0 f g p s t a b m xs (Err e)
+pub did_err : {T U : Type 0} {way : Way} (f g : StoreFacts) (p : Bool) (s t : StoreState) (a b : HostState) (m : ℕ) (xs : List Change) (e : StoreFault)
+    → Did {T = T} way f g p s t a b m xs (Err e) → Did {T = U} way f g p s t a b m xs (Err e)
 did_err f g p s t a b m xs e did = record {
   stands = did.stands;
   others = did.others;
@@ -340,17 +345,30 @@ did_err f g p s t a b m xs e did = record {
   drawn = did.drawn;
   made = did.made;
   numbers = tt;
+  parts = tt;
 }
+
+-- the parts are moved by the same changes where each moves them alike
+moves_alike : (f g : Change → List Row → List Row → Type 0) → ((change : Change) (a b : List Row) → g change a b → f change a b)
+    → (xs : List Change) (a b : List Row) → MovesBy g xs a b → MovesBy f xs a b
+moves_alike f g alike [] a b moved = moved
+moves_alike f g alike (change ∷ xs) a b moved = (moved.0, alike change a moved.0 moved.1, moves_alike f g alike xs moved.0 b moved.2)
+
+-- and by some changes, and then by more
+moves_then : (f g : Change → List Row → List Row → Type 0) → ((change : Change) (a b : List Row) → g change a b → f change a b)
+    → (xs ys : List Change) (a b c : List Row) → MovesBy f xs a b → MovesBy g ys b c → MovesBy f (xs ++ ys) a c
+moves_then f g alike [] ys a b c first second = moves_alike f g alike ys a c (subst (λ (n : List Row). MovesBy g ys n c) first second)
+moves_then f g alike (change ∷ xs) ys a b c first second = (first.0, first.1, moves_then f g alike xs ys first.0 b c first.2 second)
 
 -- changes that were made, and then more
 pub did_more : {U : Type 0} (f g h : StoreFacts) (p q : Bool) (s t u : StoreState) (a b c : HostState) (m : ℕ) (xs ys : List Change) (two : Result U StoreFault)
     → SameStore f g
     → {T : Type 0} (x : T)
-    → Did {T = T} 0 f g p s t a b m xs (Ok x)
+    → Did {T = T} by_changes f g p s t a b m xs (Ok x)
     → SameStore g h
-    → Did {T = U} 0 g h q t u b c m ys two
+    → Did {T = U} by_changes g h q t u b c m ys two
     → (IsErrOf two fault.Memory → q ≡ false → IsUnchanged f h a.turn c.turn m s u)
-    → Did {T = U} 0 f h q s u a c m (xs ++ ys) two
+    → Did {T = U} by_changes f h q s u a c m (xs ++ ys) two
 did_more f g h p q s t u a b c m xs ys two same x first same2 second refused = record {
   stands = second.stands;
   others = leaves_then f.owns false a b c first.others (subst (λ (owns : _). Leaves owns false b c) same.owns second.others);
@@ -370,6 +388,8 @@ did_more f g h p q s t u a b c m xs ys two same x first same2 second refused = r
   numbers = ok_map (IsNumbered (length ys) g.numbers h.numbers) (IsNumbered (length (xs ++ ys)) f.numbers h.numbers) two
       (λ more. numbered_by (length xs + length ys) (length (xs ++ ys)) f.numbers h.numbers (sym (length-append xs ys)) (numbered_then (length xs) (length ys) f.numbers g.numbers h.numbers first.numbers more))
       second.numbers;
+  parts = ok_map (MovesBy g.moves ys g.parts h.parts) (MovesBy f.moves (xs ++ ys) f.parts h.parts) two
+      (moves_then f.moves g.moves (λ change n o moved. (same.moves change n o).0 moved) xs ys f.parts g.parts h.parts first.parts) second.parts;
 }
   where
     earlier : (key : List ℕ) → has_some (of_key key (xs ++ ys)) ≡ true → has_some (of_key key ys) ≡ false → has_some (of_key key xs) ≡ true
@@ -382,14 +402,19 @@ did_more f g h p q s t u a b c m xs ys two same x first same2 second refused = r
         (λ content. only_kept g h b.turn c.turn m t u ys key same2 second.others.images.later second.keeps content is (first.firm firm key (earlier key has is)))
         second.content
 
+-- the parts stayed, and then room was made in them
+room_then : (f g h : StoreFacts) → SameStore f g → g.parts ≡ f.parts → IsRoom g g.parts h.parts → IsRoom f f.parts h.parts
+room_then f g h same stays (inl still) = inl (still ∙ stays)
+room_then f g h same stays (inr made) = inr (subst (λ (a : List Row). f.room a h.parts) stays ((same.room g.parts h.parts).0 made))
+
 -- no change, and then some
 pub did_then : {U : Type 0} (f g h : StoreFacts) (p q : Bool) (s t u : StoreState) (a b c : HostState) (m : ℕ) (ys : List Change) (two : Result U StoreFault)
     → SameStore f g
     → {T : Type 0} (x : T)
-    → Did {T = T} 0 f g p s t a b m [] (Ok x)
+    → Did {T = T} by_changes f g p s t a b m [] (Ok x)
     → SameStore g h
-    → Did {T = U} 0 g h q t u b c m ys two
-    → Did {T = U} 0 f h q s u a c m ys two
+    → Did {T = U} by_changes g h q t u b c m ys two
+    → Did {T = U} by_changes f h q s u a c m ys two
 did_then f g h p q s t u a b c m ys two same x first same2 second =
     did_more f g h p q s t u a b c m [] ys two same x first same2 second
     (λ of unspoilt.
@@ -398,6 +423,7 @@ did_then f g h p q s t u a b c m ys two same x first same2 second =
       keeps = keeps_by_then f g a.turn b.turn c.turn m s t u [] [] same first.others.images.later first.keeps first.content.kept left.keeps;
       content = content_then f g b.turn c.turn m s t u [] [] same second.others.images.later first.content left.keeps left.content;
       numbers = draws_then f g h (record { drawn = omega (arith, first.drawn); made = omega (arith, first.made); numbers = first.numbers }) left.numbers;
+      parts = room_then f g h same first.parts left.parts;
     })
 
 take_none : (n : ℕ) → take {A = Change} n [] ≡ []
@@ -406,7 +432,7 @@ take_none (suc n) = refl
 
 -- a fault before the first change is one before all of them
 pub none_err : {T U : Type 0} (f g : StoreFacts) (p : Bool) (s t : StoreState) (a b : HostState) (m : ℕ) (ys : List Change) (e : StoreFault)
-    → Did {T = T} 0 f g p s t a b m [] (Err e) → Did {T = U} 0 f g p s t a b m ys (Err e)
+    → Did {T = T} by_changes f g p s t a b m [] (Err e) → Did {T = U} by_changes f g p s t a b m ys (Err e)
 none_err f g p s t a b m ys e did = record {
   stands = did.stands;
   others = did.others;
@@ -427,6 +453,7 @@ none_err f g p s t a b m ys e did = record {
   drawn = omega (arith, did.drawn);
   made = omega (arith, did.made);
   numbers = tt;
+  parts = tt;
 }
   where
     at_none : (key : List ℕ) (r : Reading) (k : ℕ) → IsNewBy (f.forgets key) m [] s.content key r k → IsNewBy (f.forgets key) m ys s.content key r k
@@ -461,7 +488,7 @@ keeps_more f from to moment a b xs ys ab = record {
 
 -- a fault behind the first of some changes, in an object that is spoilt then
 pub did_broken : {T U : Type 0} (f g : StoreFacts) (p : Bool) (s t : StoreState) (a b : HostState) (m : ℕ) (xs ys : List Change) (e : StoreFault)
-    → Did {T = T} 0 f g p s t a b m xs (Err e) → Did {T = U} 0 f g true s t a b m (xs ++ ys) (Err e)
+    → Did {T = T} by_changes f g p s t a b m xs (Err e) → Did {T = U} by_changes f g true s t a b m (xs ++ ys) (Err e)
 did_broken f g p s t a b m xs ys e did = record {
   stands = λ h. absurd (not_false h);
   others = did.others;
@@ -477,11 +504,12 @@ did_broken f g p s t a b m xs ys e did = record {
   drawn = omega (arith, did.drawn, length-append xs ys);
   made = omega (arith, did.made, length-append xs ys);
   numbers = tt;
+  parts = tt;
 }
 
 -- and want of memory behind some changes that were made
 pub did_gave_up : {T U : Type 0} (f g : StoreFacts) (p : Bool) (s t : StoreState) (a b : HostState) (m : ℕ) (xs ys : List Change) (x : T)
-    → Did {T = T} 0 f g p s t a b m xs (Ok x) → Did {T = U} 0 f g true s t a b m (xs ++ ys) (Err fault.Memory)
+    → Did {T = T} by_changes f g p s t a b m xs (Ok x) → Did {T = U} by_changes f g true s t a b m (xs ++ ys) (Err fault.Memory)
 did_gave_up f g p s t a b m xs ys x did = record {
   stands = λ h. absurd (not_false h);
   others = did.others;
@@ -497,11 +525,12 @@ did_gave_up f g p s t a b m xs ys x did = record {
   drawn = omega (arith, did.drawn, length-append xs ys);
   made = omega (arith, did.made, length-append xs ys);
   numbers = tt;
+  parts = tt;
 }
 
 -- want of memory behind a call that made no change
 pub did_refused : {T U : Type 0} (f g : StoreFacts) (p : Bool) (s t : StoreState) (a b : HostState) (m : ℕ) (x : T)
-    → Did {T = T} 0 f g p s t a b m [] (Ok x) → Did {T = U} 0 f g p s t a b m [] (Err fault.Memory)
+    → Did {T = T} by_changes f g p s t a b m [] (Ok x) → Did {T = U} by_changes f g p s t a b m [] (Err fault.Memory)
 did_refused f g p s t a b m x did = record {
   stands = did.stands;
   others = did.others;
@@ -512,24 +541,25 @@ did_refused f g p s t a b m x did = record {
   undamaged = λ is d of. cc;
   spent = λ n of. cc;
   content = tt;
-  refused = λ of unspoilt. record { keeps = did.keeps; content = did.content; numbers = record { drawn = omega (arith, did.drawn); made = omega (arith, did.made); numbers = did.numbers } };
+  refused = λ of unspoilt. record { keeps = did.keeps; content = did.content; numbers = record { drawn = omega (arith, did.drawn); made = omega (arith, did.made); numbers = did.numbers }; parts = inl did.parts };
   firm = λ firm key has. tt;
   drawn = did.drawn;
   made = did.made;
   numbers = tt;
+  parts = tt;
 }
 
 -- under another word for whether it is spoilt
 pub did_spoilt : {T : Type 0} (f g : StoreFacts) (p q : Bool) (s t : StoreState) (a b : HostState) (m : ℕ) (xs : List Change) (r : Result T StoreFault)
-    → q ≡ p → Did {T = T} 0 f g p s t a b m xs r → Did {T = T} 0 f g q s t a b m xs r
-did_spoilt f g p q s t a b m xs r same did = subst (λ (x : Bool). Did 0 f g x s t a b m xs r) (sym same) did
+    → q ≡ p → Did {T = T} by_changes f g p s t a b m xs r → Did {T = T} by_changes f g q s t a b m xs r
+did_spoilt f g p q s t a b m xs r same did = subst (λ (x : Bool). Did by_changes f g x s t a b m xs r) (sym same) did
 
 pub ok_no_fault : {T : Type 0} (x : T) (e : StoreFault) → IsErrOf {T = T} (Ok x) e → ⊥
 ok_no_fault x e h = cc
 
 -- a fault in an object that is spoilt then
 pub spoilt_err : {T : Type 0} (f g : StoreFacts) (p : Bool) (s t : StoreState) (a b : HostState) (m : ℕ) (xs : List Change) (e : StoreFault)
-    → Did {T = T} 0 f g p s t a b m xs (Err e) → Did {T = T} 0 f g true s t a b m xs (Err e)
+    → Did {T = T} by_changes f g p s t a b m xs (Err e) → Did {T = T} by_changes f g true s t a b m xs (Err e)
 spoilt_err f g p s t a b m xs e did = record {
   stands = λ h. absurd (not_false h);
   others = did.others;
@@ -545,6 +575,7 @@ spoilt_err f g p s t a b m xs e did = record {
   drawn = did.drawn;
   made = did.made;
   numbers = tt;
+  parts = tt;
 }
 
 -- whatever the host tells

@@ -19,7 +19,7 @@ use Rattle.cache_model.specs.Hash.{follows, precedes}
 use Rattle.store_trait.specs.Calls.{IsAhead, IsNextKey}
 use Rattle.cache_session.proofs.Order.{precedes_trans, precedes_not}
 use Rattle.cache_session.specs.Changing.{of_key, has_some, IsOrder, Shows}
-use Rattle.cache_session.specs.Turns.{Did, Turns}
+use Rattle.cache_session.specs.Turns.{Did, by_changes, Turns}
 use Rattle.cache_session.specs.Walks.{WalkedOne}
 use Rattle.cache_session.proofs.Changing.{of_key-append, has_earlier}
 use Rattle.cache_session.proofs.Keeping.{did_then, did_ok, did_err, did_refused}
@@ -33,7 +33,7 @@ never e = cc
 -- so many visible keys were passed: each removal of the list stands for one
 pub record Sizing (f g : StoreFacts) (old new : StoreState) (before after : HostState) (moment count : ℕ) (last : Option (List ℕ)) : Type 0 where
   pub passed : List Change
-  pub did : Did {T = Unit {0}} 0 f g g.spoilt old new before after moment [] (Ok tt)
+  pub did : Did {T = Unit {0}} by_changes f g g.spoilt old new before after moment [] (Ok tt)
   pub each : IsClearing moment old.content passed
   pub count_is : length passed ≡ count
   pub behind : (key : List ℕ) → IsSome (seen moment (read_in old.content key)) → (has_some (of_key key passed) ≡ true) ⊎ (follows f.bits last key ≡ true)
@@ -68,7 +68,7 @@ first_at f g s t m last (Some key) bits same is =
 unfoldable pub goes_to : {T : Type 0} (f g h : StoreFacts) (s t u : StoreState) (a b c : HostState) (m n : ℕ) (last next : Option (List ℕ)) (key : List ℕ) (x : T)
     → SameStore f g → SameStore g h
     → Sizing f g s t a b m n last
-    → Did {T = T} 0 g h h.spoilt t u b c m [] (Ok x)
+    → Did {T = T} by_changes g h h.spoilt t u b c m [] (Ok x)
     → IsNextKey g.bits m t.content last (Some key)
     → next ≡ Some key
     → Sizing f h s u a c m (n + 1) next

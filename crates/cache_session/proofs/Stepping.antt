@@ -15,13 +15,13 @@ use Rattle.store_trait.specs.Meaning.{Row, StoreFacts, StoreState}
 use Rattle.store_trait.specs.Keeping.{HoldsNow}
 use Rattle.store_trait.specs.Calls.{Stepped, DrawsBy, IsNumbered}
 use Rattle.cache_session.specs.Changing.{Shows}
-use Rattle.cache_session.specs.Turns.{Did, Turns, StepMoves, gives_up, files_of}
-use Rattle.cache_session.proofs.Keeping.{keeps_none, same_fault}
+use Rattle.cache_session.specs.Turns.{Did, by_changes, by_step, Turns, StepMoves, gives_up, files_of}
+use Rattle.cache_session.proofs.Keeping.{always, keeps_none, same_fault}
 use Rattle.cache_session.proofs.Turning.{never, turns_still, did_nothing}
 
--- more files may be made than were
-did_files : {T : Type 0} (n : ℕ) (f g : StoreFacts) (p : Bool) (s t : StoreState) (a b : HostState) (m : ℕ) (r : Result T StoreFault) → Did {T = T} 0 f g p s t a b m [] r → Did {T = T} n f g p s t a b m [] r
-did_files n f g p s t a b m r did = record {
+-- a step that did nothing
+did_step : {T : Type 0} (kind : StepKind) (f g : StoreFacts) (p : Bool) (s t : StoreState) (a b : HostState) (m : ℕ) (r : Result T StoreFault) → Did {T = T} by_changes f g p s t a b m [] r → Did {T = T} (by_step kind) f g p s t a b m [] r
+did_step kind f g p s t a b m r did = record {
   stands = did.stands;
   others = did.others;
   silent = did.silent;
@@ -36,6 +36,7 @@ did_files n f g p s t a b m r did = record {
   drawn = did.drawn;
   made = omega (arith, did.made);
   numbers = did.numbers;
+  parts = always r tt;
 }
 
 given : (kind : StepKind) (s : StoreState) (parts : List Row) → gives_up kind ≡ true → StepMoves kind s Idle parts parts
@@ -69,7 +70,7 @@ pub idle_step : (publish : List ℕ) (plain : Plain) (kind : StepKind) (f : Stor
     → Turns publish plain (Step kind) f f p s s a a (Ok (reply.Turned Idle))
 idle_step publish plain kind f p s a m gives at shows stands now =
     turns_still publish plain (Step kind) f f p s s a a m (Ok (reply.Turned Idle)) at shows (omega arith) refl (λ key. refl)
-    (did_files (files_of kind) f f p s s a a m (Ok (reply.Turned Idle)) (did_nothing f s a p m (reply.Turned Idle) stands now))
+    (did_step kind f f p s s a a m (Ok (reply.Turned Idle)) (did_nothing f s a p m (reply.Turned Idle) stands now))
     tt (Idle, refl, given kind s f.parts gives) (λ busy. refl)
 
 -- the store took a step
@@ -95,6 +96,7 @@ store_step publish plain kind f g broken s t a b m turned takes whole did draws 
       drawn = omega (arith, (drawn_by kind f g (Ok turned) draws).0);
       made = omega (arith, (drawn_by kind f g (Ok turned) draws).1);
       numbers = (drawn_by kind f g (Ok turned) draws).2;
+      parts = tt;
     }
     tt (turned, refl, taken kind s turned f.parts g.parts takes did.parts) (λ idle. absurd (never idle))
 
@@ -120,5 +122,6 @@ failed_step publish plain kind f g s t a b m e did draws at shows =
       drawn = omega (arith, (drawn_by kind f g (Err e) draws).0);
       made = omega (arith, (drawn_by kind f g (Err e) draws).1);
       numbers = tt;
+      parts = tt;
     }
     tt tt (λ idle. absurd (never idle))

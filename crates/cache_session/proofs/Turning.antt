@@ -14,7 +14,7 @@ use Rattle.store_trait.specs.Meaning.{Row, StoreFacts, StoreState}
 use Rattle.store_trait.specs.Keeping.{HoldsNow, IsOnly}
 use Rattle.store_trait.proofs.Runs.{old_same, old_whole_same, leaves_same}
 use Rattle.cache_session.specs.Changing.{IsOrder, Shows, has_some}
-use Rattle.cache_session.specs.Turns.{IsContentAfter, Did, Turns, is_settling, is_idle, files_by, IsReplyOf, IsStepReply}
+use Rattle.cache_session.specs.Turns.{IsContentAfter, Did, way_of, by_changes, Turns, is_settling, is_idle, IsReplyOf, IsStepReply}
 use Rattle.cache_session.proofs.Keeping.{ok_map, content_same}
 use Rattle.cache_session.proofs.Numbers.{draws_none}
 use Rattle.cache_session.proofs.Shown.{shows_after}
@@ -80,7 +80,7 @@ shows_then : (plain : Plain) (command : Command) (f g : StoreFacts) (p : Bool) (
     → Shows plain s.content
     → plain.moment ≤ moment_after plain.moment command
     → IsOrder (effect_of plain command) changes
-    → Did (files_by command) f g p s t a b plain.moment changes result
+    → Did (way_of command) f g p s t a b plain.moment changes result
     → OnOk result (Shows (plain_after plain command) t.content)
 shows_then plain command f g p s t a b changes result shows later order did =
     ok_map (IsContentAfter f plain.moment b.turn changes s t) (Shows (plain_after plain command) t.content) result
@@ -92,7 +92,7 @@ pub turns_by : (publish : List ℕ) (plain : Plain) (command : Command) (f g : S
     → plain.moment ≡ moment
     → Shows plain s.content
     → IsOrder (effect_of plain command) changes
-    → Did (files_by command) f g p s t a b moment changes result
+    → Did (way_of command) f g p s t a b moment changes result
     → IfOk result (λ reply. IsReplyOf (plain_reply publish plain command) reply)
     → Turns publish plain command f g p s t a b result
 turns_by publish plain command f g p s t a b moment changes result calm at shows order did reply =
@@ -109,8 +109,8 @@ turns_by publish plain command f g p s t a b moment changes result calm at shows
       idle = λ is. absurd (never (sym calm.idle ∙ is));
     }
   where
-    now : Did (files_by command) f g p s t a b plain.moment changes result
-    now = subst (λ (m : ℕ). Did (files_by command) f g p s t a b m changes result) (sym at) did
+    now : Did (way_of command) f g p s t a b plain.moment changes result
+    now = subst (λ (m : ℕ). Did (way_of command) f g p s t a b m changes result) (sym at) did
 
 -- a command that makes no change, after whose answer nothing else is possible of any key
 pub turns_settled : (publish : List ℕ) (plain : Plain) (command : Command) (f g : StoreFacts) (p : Bool) (s t : StoreState) (a b : HostState) (moment : ℕ) (result : Result Reply StoreFault)
@@ -119,7 +119,7 @@ pub turns_settled : (publish : List ℕ) (plain : Plain) (command : Command) (f 
     → plain.moment ≤ moment_after plain.moment command
     → is_idle command ≡ false
     → IsOrder (effect_of plain command) []
-    → Did (files_by command) f g p s t a b moment [] result
+    → Did (way_of command) f g p s t a b moment [] result
     → IfOk result (λ reply. IsReplyOf (plain_reply publish plain command) reply)
     → IfOk result (IsStepReply command s f.parts g.parts)
     → OnOk result ((key : List ℕ) → IsOnly g t b.turn key)
@@ -135,8 +135,8 @@ turns_settled publish plain command f g p s t a b moment result at shows later b
   idle = λ is. absurd (never (sym busy ∙ is));
 }
   where
-    now : Did (files_by command) f g p s t a b plain.moment [] result
-    now = subst (λ (m : ℕ). Did (files_by command) f g p s t a b m [] result) (sym at) did
+    now : Did (way_of command) f g p s t a b plain.moment [] result
+    now = subst (λ (m : ℕ). Did (way_of command) f g p s t a b m [] result) (sym at) did
 
 -- a command that makes no change and promises nothing
 pub turns_still : (publish : List ℕ) (plain : Plain) (command : Command) (f g : StoreFacts) (p : Bool) (s t : StoreState) (a b : HostState) (moment : ℕ) (result : Result Reply StoreFault)
@@ -145,7 +145,7 @@ pub turns_still : (publish : List ℕ) (plain : Plain) (command : Command) (f g 
     → plain.moment ≤ moment_after plain.moment command
     → is_settling command ≡ false
     → ((key : List ℕ) → changes_by (effect_of plain command) key ≡ [])
-    → Did (files_by command) f g p s t a b moment [] result
+    → Did (way_of command) f g p s t a b moment [] result
     → IfOk result (λ reply. IsReplyOf (plain_reply publish plain command) reply)
     → IfOk result (IsStepReply command s f.parts g.parts)
     → (is_idle command ≡ true → b.turn ≡ a.turn)
@@ -163,11 +163,11 @@ turns_still publish plain command f g p s t a b moment result at shows later cal
   idle = idle;
 }
   where
-    now : Did (files_by command) f g p s t a b plain.moment [] result
-    now = subst (λ (m : ℕ). Did (files_by command) f g p s t a b m [] result) (sym at) did
+    now : Did (way_of command) f g p s t a b plain.moment [] result
+    now = subst (λ (m : ℕ). Did (way_of command) f g p s t a b m [] result) (sym at) did
 
 -- nothing was done
-pub did_nothing : {T : Type 0} (f : StoreFacts) (s : StoreState) (a : HostState) (p : Bool) (m : ℕ) (x : T) → s.stands → HoldsNow f s a.turn → Did {T = T} 0 f f p s s a a m [] (Ok x)
+pub did_nothing : {T : Type 0} (f : StoreFacts) (s : StoreState) (a : HostState) (p : Bool) (m : ℕ) (x : T) → s.stands → HoldsNow f s a.turn → Did {T = T} by_changes f f p s s a a m [] (Ok x)
 did_nothing f s a p m x stands now = record {
   stands = λ _. stands;
   others = leaves_same f.owns false a;
@@ -188,4 +188,5 @@ did_nothing f s a p m x stands now = record {
   drawn = omega arith;
   made = omega arith;
   numbers = (draws_none f).numbers;
+  parts = refl;
 }

@@ -10,7 +10,7 @@ use Rattle.cache_disk.specs.State.{HostState}
 use Rattle.store_trait.specs.Meaning.{read_in, seen, key_of, StoreFacts, StoreState}
 use Rattle.cache_session.specs.declared.conditions.Condition.{Condition}
 use Rattle.cache_session.specs.declared.conditions.Condition.TheVariants.{Unseen, Visible, HasValue}
-use Rattle.cache_session.specs.Turns.{Did}
+use Rattle.cache_session.specs.Turns.{Did, by_changes}
 
 -- why a condition doesn't hold of a key's visible entry, none where it holds
 abbrev pub refusal : Condition → Option Entry → Option Reply
@@ -33,5 +33,5 @@ reply_where (Some reply) = reply
 
 -- The change was made where the condition holds of its key, and else nothing.
 pub record WroteWhere (condition : Condition) (change : Change) (f g : StoreFacts) (spoilt : Bool) (old new : StoreState) (before after : HostState) (moment : ℕ) (result : Result Reply StoreFault) : Type 0 where
-  pub did : Did 0 f g spoilt old new before after moment (changes_where (refusal condition (seen moment (read_in old.content (key_of change)))) change) result
+  pub did : Did by_changes f g spoilt old new before after moment (changes_where (refusal condition (seen moment (read_in old.content (key_of change)))) change) result
   pub reply : IfOk result (λ reply. reply ≡ reply_where (refusal condition (seen moment (read_in old.content (key_of change)))))

@@ -1,5 +1,5 @@
 -- What a turn of a session does.
-use Rattle.std.specs.Prelude.{◌≡◌, ◌⊎◌, ℕ, ◌+◌, ◌≤◌, ◌<◌, ◌||◌, ◌&&◌, Bool, true, false, List, [], Option, Some, None, Result, take, length, IfOk, OnOk, OnErr, IsErrOf}
+use Rattle.std.specs.Prelude.{◌≡◌, ◌⊎◌, ℕ, ◌+◌, ◌≤◌, ◌<◌, ◌||◌, ◌&&◌, Bool, true, false, List, [], ◌∷◌, Option, Some, None, Result, take, length, IfOk, OnOk, OnErr, IsErrOf}
 use Rattle.cache_model.specs.declared.entries.Change.{Change}
 use Rattle.cache_model.specs.declared.commands.Command.{Command}
 use Rattle.cache_model.specs.declared.commands.Command.TheVariants.{At, Sync, Stop, Step, Evict, Halt, CompactAll, CompactFile, Stats, Export}
@@ -79,15 +79,48 @@ pub record IsContentAfter (f : StoreFacts) (moment turn : ℕ) (changes : List C
   pub at_marks : (key : List ℕ) (r : Reading) (mark : ℕ) → new.may turn key r mark
       → IsAlike (f.forgets key) mark (read_in new.content key) (read_in (after_all changes old.content) key)
 
+-- How a call goes about: by its changes alone, by a sync, or by a step.
+pub data Way : Type 0 where
+  by_changes : Way
+  by_sync : Way
+  by_step : (kind : StepKind) → Way
+
+-- how changes that are written in turn move the parts of a store
+abbrev pub MovesBy : (Change → List Row → List Row → Type 0) → List Change → List Row → List Row → Type 0
+MovesBy moves [] a b = b ≡ a
+MovesBy moves (change ∷ changes) a b = (c : List Row) × moves change a c × MovesBy moves changes c b
+
+-- how a call moves them; a step says it with its answer
+abbrev pub PartsBy : Way → StoreFacts → List Change → List Row → List Row → Type 0
+PartsBy by_changes f changes a b = MovesBy f.moves changes a b
+PartsBy by_sync f changes a b = f.empties a b
+PartsBy (by_step kind) f changes a b = Unit {0}
+
+-- they stay, or room was made in them
+abbrev pub IsRoom : StoreFacts → List Row → List Row → Type 0
+IsRoom f a b = (b ≡ a) ⊎ f.room a b
+
+-- how many files a turn of a compaction makes at the most
+abbrev pub files_of : StepKind → ℕ
+files_of step.Compact = 1
+files_of kind = 0
+
+-- how many files a call makes at the most, beside those for its changes
+abbrev pub files_in : Way → ℕ
+files_in by_changes = 0
+files_in by_sync = 0
+files_in (by_step kind) = files_of kind
+
 -- Nothing was changed: neither what the content shows, nor what may be left, nor a number.
 pub record IsUnchanged (f g : StoreFacts) (from to moment : ℕ) (old new : StoreState) : Type 0 where
   pub keeps : KeepsBy f from to moment old new []
   pub content : IsContentAfter f moment to [] old new
   pub numbers : DrawsNone f g
+  pub parts : IsRoom f f.parts g.parts
 
 -- These changes were made: all of them where the answer is Ok, none where it is Memory and the object is unspoilt, and
--- else some first of them. Beside the files for the changes at the most so many files were made.
-pub record Did {T : Type 0} (files : ℕ) (f g : StoreFacts) (spoilt : Bool) (old new : StoreState) (before after : HostState) (moment : ℕ) (changes : List Change) (result : Result T StoreFault) : Type 0 where
+-- else some first of them. They moved the parts of the store.
+pub record Did {T : Type 0} (way : Way) (f g : StoreFacts) (spoilt : Bool) (old new : StoreState) (before after : HostState) (moment : ℕ) (changes : List Change) (result : Result T StoreFault) : Type 0 where
   pub stands : spoilt ≡ false → new.stands
   pub others : Leaves f.owns false before after
   pub silent : Silent before after
@@ -102,8 +135,9 @@ pub record Did {T : Type 0} (files : ℕ) (f g : StoreFacts) (spoilt : Bool) (ol
   pub firm : f.firm ≡ true → (key : List ℕ) → has_some (of_key key changes) ≡ true → OnOk result (IsOnly g new after.turn key)
   -- each change takes one number and makes one file at the most
   pub drawn : g.drawn ≤ f.drawn + length changes
-  pub made : g.made ≤ f.made + length changes + files
+  pub made : g.made ≤ f.made + length changes + files_in way
   pub numbers : OnOk result (IsNumbered (length changes) f.numbers g.numbers)
+  pub parts : OnOk result (PartsBy way f changes f.parts g.parts)
 
 -- what each call asks of a session, whatever the host tells
 pub record IsFit (f : StoreFacts) (broken : Bool) (moment : ℕ) : Type 0 where
@@ -142,15 +176,16 @@ abbrev pub IsStepReply : Command → StoreState → List Row → List Row → Re
 IsStepReply (Step kind) old a b answer = (turned : Turned) × (answer ≡ reply.Turned turned) × StepMoves kind old turned a b
 IsStepReply command old a b answer = Unit {0}
 
--- how many files a turn of a compaction makes at the most
-abbrev pub files_of : StepKind → ℕ
-files_of step.Compact = 1
-files_of kind = 0
+-- how a command goes about
+abbrev pub way_of : Command → Way
+way_of Sync = by_sync
+way_of Stop = by_sync
+way_of (Step kind) = by_step kind
+way_of command = by_changes
 
 -- how many files a command makes at the most, beside those for its changes
 abbrev pub files_by : Command → ℕ
-files_by (Step kind) = files_of kind
-files_by command = 0
+files_by command = files_in (way_of command)
 
 -- a command that asks nothing of the disk
 abbrev pub is_idle : Command → Bool
@@ -163,7 +198,7 @@ is_idle command = false
 pub record Turns (publish : List ℕ) (plain : Plain) (command : Command) (f g : StoreFacts) (spoilt : Bool) (old new : StoreState) (before after : HostState) (result : Result Reply StoreFault) : Type 0 where
   pub changes : List Change
   pub order : IsOrder (effect_of plain command) changes
-  pub did : Did (files_by command) f g spoilt old new before after plain.moment changes result
+  pub did : Did (way_of command) f g spoilt old new before after plain.moment changes result
   pub shows : OnOk result (Shows (plain_after plain command) new.content)
   pub reply : IfOk result (λ reply. IsReplyOf (plain_reply publish plain command) reply)
   pub step : IfOk result (λ reply. IsStepReply command old f.parts g.parts reply)
