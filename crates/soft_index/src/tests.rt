@@ -20,39 +20,88 @@ use std::process::Abort;
 use std::test::Fail;
 use store_trait::{HeapStore, Keyed, Store};
 
-/// A change of a key: so many bytes of a value, and until when, or a removal.
-type Row = (&'static str, Option<(usize, u8, Option<u32>)>);
+/// A change of a key: a text so many times over as its value, and until when, or a removal.
+type Row = (&'static str, Option<(&'static str, usize, Option<u32>)>);
 
-/// The changes of three sessions. The first value of `c` fills a file of 4,096 bytes.
-const SESSIONS: [(u32, [Row; 4]); 3] = [
-    (
-        1000,
-        [
-            ("a", Some((1, 49, None))),
-            ("b", Some((2, 50, Some(1500)))),
-            ("a", Some((3, 51, None))),
-            ("c", Some((4090, 52, None))),
-        ],
-    ),
-    (
-        2000,
-        [
-            ("a", None),
-            ("c", Some((0, 53, None))),
-            ("a", Some((1, 54, Some(2000)))),
-            ("b", Some((2000, 55, Some(9000)))),
-        ],
-    ),
-    (
-        3000,
-        [
-            ("b", None),
-            ("c", Some((2100, 56, None))),
-            ("c", None),
-            ("a", Some((1, 57, None))),
-        ],
-    ),
-];
+/// The moment of a session, and its changes.
+type Session = (u32, [Row; 4]);
+
+/// Three keys, and the sessions that change them.
+struct Table {
+    keys: [&'static str; 3],
+    sessions: [Session; 3],
+}
+
+/// The moment of the last session.
+const LAST: u64 = 3000;
+
+/// The first value of `c` fills a file of 4,096 bytes.
+const LONG: Table = Table {
+    keys: ["a", "b", "c"],
+    sessions: [
+        (
+            1000,
+            [
+                ("a", Some(("1", 1, None))),
+                ("b", Some(("2", 2, Some(1500)))),
+                ("a", Some(("3", 3, None))),
+                ("c", Some(("4", 4090, None))),
+            ],
+        ),
+        (
+            2000,
+            [
+                ("a", None),
+                ("c", Some(("5", 0, None))),
+                ("a", Some(("6", 1, Some(2000)))),
+                ("b", Some(("7", 2000, Some(9000)))),
+            ],
+        ),
+        (
+            3000,
+            [
+                ("b", None),
+                ("c", Some(("8", 2100, None))),
+                ("c", None),
+                ("a", Some(("9", 1, None))),
+            ],
+        ),
+    ],
+};
+
+/// The changes that conditional puts and removals and a `clear` of two keys make, and the first of them once more.
+const SHORT: Table = Table {
+    keys: ["a", "x", "y"],
+    sessions: [
+        (
+            1000,
+            [
+                ("a", Some(("1", 1, None))),
+                ("a", Some(("3", 1, None))),
+                ("a", Some(("4", 1, None))),
+                ("a", None),
+            ],
+        ),
+        (
+            1000,
+            [
+                ("x", Some(("\0 ", 1, None))),
+                ("y", Some(("", 1, None))),
+                ("x", None),
+                ("y", None),
+            ],
+        ),
+        (
+            3000,
+            [
+                ("a", Some(("1", 1, None))),
+                ("a", Some(("3", 1, None))),
+                ("a", Some(("4", 1, None))),
+                ("a", None),
+            ],
+        ),
+    ],
+};
 
 fn settings_of(alloc: Global, sync_writes: bool) -> Result<Settings, Fail>
     ensures { IfOk result AreInRange }
@@ -87,12 +136,10 @@ fn change_of(alloc: Global, row: &Row) -> Result<Change, Fail>
     ensures { IfOk result (λ change. IsChange change) }
 {
     let key = Key::of(alloc, row.0.as_bytes())?;
-    let Some((length, byte, end)) = row.1 else {
+    let Some((text, times, end)) = row.1 else {
         return Ok(Change::Remove(key));
     };
-    let mut bytes = Vec::new(alloc);
-    bytes.resize(length, byte)?;
-    let value = Value::of(alloc, &bytes)?;
+    let value = Value::of(alloc, text.repeat(alloc, times)?.as_bytes())?;
     let until = until_of(end);
     Ok(Change::Put(key, Entry { value, until }))
 }
@@ -156,11 +203,12 @@ fn next<H: Host, S: Store<H>>(
     }
 }
 
-/// What a store has of the three keys, and its walk from each.
+/// What a store has of three keys, and its walk from each.
 fn seen<H: Host, S: Store<H>>(
     alloc: Global,
     store: &mut S,
     host: &mut H,
+    keys: &[&'static str; 3],
     moment: u64,
 ) -> Result<String, Fail>
     requires ready { IsReady (S.facts store.old) moment }
@@ -168,13 +216,32 @@ fn seen<H: Host, S: Store<H>>(
     ensures ready { OnOk result (IsReady (S.facts store.new) moment) }
     ensures stands { OnOk result (IsTrue H.tells → (S.means store.new (H.state host.new)).stands) }
 {
-    let one = load(alloc, store, host, "a", moment)?;
-    let two = load(alloc, store, host, "b", moment)?;
-    let three = load(alloc, store, host, "c", moment)?;
+    let [a, b, c] = *keys;
+    let one = load(alloc, store, host, a, moment)?;
+    let two = load(alloc, store, host, b, moment)?;
+    let three = load(alloc, store, host, c, moment)?;
     let first = next(alloc, store, host, None, moment)?;
-    let second = next(alloc, store, host, Some(&Key::of(alloc, b"a")?), moment)?;
-    let third = next(alloc, store, host, Some(&Key::of(alloc, b"b")?), moment)?;
-    let last = next(alloc, store, host, Some(&Key::of(alloc, b"c")?), moment)?;
+    let second = next(
+        alloc,
+        store,
+        host,
+        Some(&Key::of(alloc, a.as_bytes())?),
+        moment,
+    )?;
+    let third = next(
+        alloc,
+        store,
+        host,
+        Some(&Key::of(alloc, b.as_bytes())?),
+        moment,
+    )?;
+    let last = next(
+        alloc,
+        store,
+        host,
+        Some(&Key::of(alloc, c.as_bytes())?),
+        moment,
+    )?;
     Ok(format!(in alloc; "{one}, {two}, {three}: {first} {second} {third} {last}")?)
 }
 
@@ -192,6 +259,7 @@ fn row_holds<F: Fn(&Key) -> bool + Drop>(
     store: &mut SoftIndex<F>,
     heap: &mut InMemory,
     host: &mut MemoryHost,
+    keys: &[&'static str; 3],
     row: &Row,
     moment: u64,
 ) -> Result<(), Fail>
@@ -204,9 +272,9 @@ fn row_holds<F: Fn(&Key) -> bool + Drop>(
 {
     let change = change_of(alloc, row)?;
     write(store, host, &change, moment)?;
-    let had = seen(alloc, store, host, moment)?;
+    let had = seen(alloc, store, host, keys, moment)?;
     write(&mut heap.store, &mut heap.host, &change, moment)?;
-    let wanted = seen(alloc, &mut heap.store, &mut heap.host, moment)?;
+    let wanted = seen(alloc, &mut heap.store, &mut heap.host, keys, moment)?;
     assert!(rt;
         had.as_str() == wanted.as_str(),
         "{row:?}: {had}, and not {wanted}"
@@ -264,7 +332,8 @@ fn session_holds(
     host: &mut MemoryHost,
     heap: &mut InMemory,
     settings: &Settings,
-    session: &(u32, [Row; 4]),
+    keys: &[&'static str; 3],
+    session: &Session,
 ) -> Result<(), Fail>
     requires settings { AreInRange settings.now }
     requires heap { IsReady (heap_facts heap.old.store) session.now.0 }
@@ -273,45 +342,70 @@ fn session_holds(
     let moment = u64::from(session.0);
     let [one, two, three, four] = &session.1;
     let mut store = open(rt, alloc, host, settings, |_| false, moment)?;
-    row_holds(rt, alloc, &mut store, heap, host, one, moment)?;
-    row_holds(rt, alloc, &mut store, heap, host, two, moment)?;
-    row_holds(rt, alloc, &mut store, heap, host, three, moment)?;
-    row_holds(rt, alloc, &mut store, heap, host, four, moment)?;
+    row_holds(rt, alloc, &mut store, heap, host, keys, one, moment)?;
+    row_holds(rt, alloc, &mut store, heap, host, keys, two, moment)?;
+    row_holds(rt, alloc, &mut store, heap, host, keys, three, moment)?;
+    row_holds(rt, alloc, &mut store, heap, host, keys, four, moment)?;
     let turned = rests(&mut store, host, moment)?;
     assert!(rt; turned == (Turned::Done, Turned::Idle));
     Ok(())
 }
 
-fn sessions_hold(rt: &impl Abort, alloc: Global, sync_writes: bool) -> Result<(), Fail> {
-    let mut host = MemoryHost::new(alloc, Vec::new(alloc), Vec::new(alloc), Vec::new(alloc), 0)?;
-    let mut heap = InMemory {
+/// A host in memory without a file.
+fn empty_host(alloc: Global) -> Result<MemoryHost, Fail> {
+    Ok(MemoryHost::new(alloc, Vec::new(alloc), Vec::new(alloc), Vec::new(alloc), 0)?)
+}
+
+/// A store in memory without a key.
+fn empty_heap(alloc: Global) -> Result<InMemory, Fail>
+    ensures { IfOk result (λ heap. IsReady (heap_facts heap.store) 0) }
+{
+    Ok(InMemory {
         store: HeapStore::new(alloc, 32)?,
-        host: MemoryHost::new(alloc, Vec::new(alloc), Vec::new(alloc), Vec::new(alloc), 0)?,
-    };
+        host: empty_host(alloc)?,
+    })
+}
+
+fn sessions_hold(
+    rt: &impl Abort,
+    alloc: Global,
+    table: &Table,
+    sync_writes: bool,
+) -> Result<(), Fail> {
+    let mut host = empty_host(alloc)?;
+    let mut heap = empty_heap(alloc)?;
     let settings = settings_of(alloc, sync_writes)?;
-    let [one, two, three] = &SESSIONS;
-    session_holds(rt, alloc, &mut host, &mut heap, &settings, one)?;
-    session_holds(rt, alloc, &mut host, &mut heap, &settings, two)?;
-    session_holds(rt, alloc, &mut host, &mut heap, &settings, three)
+    let keys = &table.keys;
+    let [one, two, three] = &table.sessions;
+    assert!(rt; one.0 <= two.0 && two.0 <= three.0);
+    session_holds(rt, alloc, &mut host, &mut heap, &settings, keys, one)?;
+    session_holds(rt, alloc, &mut host, &mut heap, &settings, keys, two)?;
+    session_holds(rt, alloc, &mut host, &mut heap, &settings, keys, three)
 }
 
 #[test]
 fn sessions_hold_the_same_as_a_store_in_memory(rt: HostRuntime) -> Result<(), Fail> {
-    sessions_hold(&rt, rt.alloc(), true)?;
-    sessions_hold(&rt, rt.alloc(), false)
+    for table in [&LONG, &SHORT] {
+        sessions_hold(&rt, rt.alloc(), table, true)?;
+        sessions_hold(&rt, rt.alloc(), table, false)?;
+    }
+    Ok(())
 }
 
-/// How many turns were taken by each change, and what each of the three keys then read as.
+/// What was answered by which turn: each change, after which the store in memory read three keys so, and each promise
+/// that so many changes outlast a crash.
 #[derive(Drop)]
 struct Past {
     turns: Vec<u64>,
     texts: Vec<[String; 3]>,
+    promises: Vec<(u64, usize)>,
 }
 
 fn texts<H: Host, S: Store<H>>(
     alloc: Global,
     store: &mut S,
     host: &mut H,
+    keys: &[&'static str; 3],
     moment: u64,
 ) -> Result<[String; 3], Fail>
     requires ready { IsReady (S.facts store.old) moment }
@@ -319,57 +413,113 @@ fn texts<H: Host, S: Store<H>>(
     ensures ready { OnOk result (IsReady (S.facts store.new) moment) }
     ensures stands { OnOk result (IsTrue H.tells → (S.means store.new (H.state host.new)).stands) }
 {
-    let one = load(alloc, store, host, "a", moment)?;
-    let two = load(alloc, store, host, "b", moment)?;
-    let three = load(alloc, store, host, "c", moment)?;
+    let [a, b, c] = *keys;
+    let one = load(alloc, store, host, a, moment)?;
+    let two = load(alloc, store, host, b, moment)?;
+    let three = load(alloc, store, host, c, moment)?;
     Ok([one, two, three])
 }
 
-/// One change more in the past.
+/// A change to the store in memory, and what it then reads at the last moment.
+fn note(
+    alloc: Global,
+    heap: &mut InMemory,
+    past: &mut Past,
+    keys: &[&'static str; 3],
+    change: &Change,
+    turn: u64,
+) -> Result<(), Fail>
+    requires change { IsChange change.now }
+    requires heap { IsReady (heap_facts heap.old.store) 3000 }
+    ensures heap { OnOk result (IsReady (heap_facts heap.new.store) 3000) }
+{
+    write(&mut heap.store, &mut heap.host, change, LAST)?;
+    let read = texts(alloc, &mut heap.store, &mut heap.host, keys, LAST)?;
+    past.turns.push(turn)?;
+    past.texts.push(read)?;
+    Ok(())
+}
+
+/// One change more in the past. Where changes are synced at once, its answer is a promise.
 fn row_passes<F: Fn(&Key) -> bool + Drop>(
     alloc: Global,
     store: &mut SoftIndex<F>,
     host: &mut MemoryHost,
+    heap: &mut InMemory,
     past: &mut Past,
+    settings: &Settings,
+    keys: &[&'static str; 3],
     row: &Row,
     moment: u64,
 ) -> Result<(), Fail>
     requires ready { IsReady (index_facts F.Fn store.old) moment }
     requires stands { (index_means store.old (memory_state host.old)).stands }
+    requires heap { IsReady (heap_facts heap.old.store) 3000 }
     ensures ready { OnOk result (IsReady (index_facts F.Fn store.new) moment) }
     ensures stands { OnOk result ((index_means store.new (memory_state host.new)).stands) }
+    ensures heap { OnOk result (IsReady (heap_facts heap.new.store) 3000) }
 {
     let change = change_of(alloc, row)?;
     write(store, host, &change, moment)?;
-    past.turns.push(host.turns())?;
-    past.texts.push(texts(alloc, store, host, moment)?)?;
+    note(alloc, heap, past, keys, &change, host.turns())?;
+    if settings.sync_writes {
+        past.promises.push((host.turns(), past.turns.len()))?;
+    }
     Ok(())
 }
 
-/// Whether a key read so after so many changes.
-fn reads_as(past: &Past, count: usize, key: usize, had: &[String; 3]) -> bool {
-    let Some(text) = had.get(key) else {
-        return false;
-    };
-    let Some(last) = count.checked_sub(1) else {
-        return text.as_str() == "unknown";
-    };
-    match past.texts.get(last) {
-        Some(texts) => match texts.get(key) {
-            Some(then) => then.as_str() == text.as_str(),
-            None => false,
-        },
-        None => false,
+/// One session, whose changes are promised at its end.
+fn session_passes(
+    rt: &impl Abort,
+    alloc: Global,
+    host: &mut MemoryHost,
+    heap: &mut InMemory,
+    past: &mut Past,
+    settings: &Settings,
+    keys: &[&'static str; 3],
+    session: &Session,
+) -> Result<(), Fail>
+    requires settings { AreInRange settings.now }
+    requires heap { IsReady (heap_facts heap.old.store) 3000 }
+    ensures heap { OnOk result (IsReady (heap_facts heap.new.store) 3000) }
+{
+    let moment = u64::from(session.0);
+    let [one, two, three, four] = &session.1;
+    let mut store = open(rt, alloc, host, settings, |_| false, moment)?;
+    row_passes(
+        alloc, &mut store, host, heap, past, settings, keys, one, moment,
+    )?;
+    row_passes(
+        alloc, &mut store, host, heap, past, settings, keys, two, moment,
+    )?;
+    row_passes(
+        alloc, &mut store, host, heap, past, settings, keys, three, moment,
+    )?;
+    row_passes(
+        alloc, &mut store, host, heap, past, settings, keys, four, moment,
+    )?;
+    let turned = rests(&mut store, host, moment)?;
+    assert!(rt; turned == (Turned::Done, Turned::Idle));
+    past.promises.push((host.turns(), past.turns.len()))?;
+    Ok(())
+}
+
+/// Whether three keys read so after so many changes.
+fn reads_as(past: &Past, count: usize, had: &[String; 3]) -> bool {
+    match count.checked_sub(1) {
+        Some(last) => past.texts.get(last) == Some(had),
+        None => had.iter().all(|text| text.as_str() == "unknown"),
     }
 }
 
-/// Whether what a crash left of a key is what it read as after a change that was begun, and where changes are synced at
-/// once none before those that were done.
-fn is_left(past: &Past, turn: u64, sync_writes: bool, key: usize, had: &[String; 3]) -> bool {
+/// Whether what a crash left of the keys is what they read after a number of changes: of those that were begun, and no
+/// fewer than were promised.
+fn is_left(past: &Past, turn: u64, had: &[String; 3]) -> bool {
     let done = past.turns.iter().filter(|at| **at <= turn).count();
-    let least = if sync_writes { done } else { 0 };
+    let promised = past.promises.iter().filter(|promise| promise.0 <= turn);
+    let least = promised.map(|promise| promise.1).max().unwrap_or(0);
     for count in least..=done.saturating_add(1) {
-        if reads_as(past, count, key, had) {
+        if reads_as(past, count, had) {
             return true;
         }
     }
@@ -382,6 +532,7 @@ fn crash_holds(
     host: &MemoryHost,
     past: &Past,
     settings: &Settings,
+    keys: &[&'static str; 3],
     turn: u64,
     choice: u64,
 ) -> Result<(), Fail>
@@ -390,31 +541,40 @@ fn crash_holds(
     assert!(rt; turn <= host.turns());
     let image = host.image_at(turn, choice)?;
     let mut host = MemoryHost::new(alloc, image, Vec::new(alloc), Vec::new(alloc), 0)?;
-    let mut store = open(rt, alloc, &mut host, settings, |_| true, 1000)?;
-    let had = texts(alloc, &mut store, &mut host, 1000)?;
-    for key in 0..3 {
-        let left = is_left(past, turn, settings.sync_writes, key, &had);
-        assert!(rt; left, "{turn} {choice} {key}");
-    }
+    let mut store = open(rt, alloc, &mut host, settings, |_| false, LAST)?;
+    let had = texts(alloc, &mut store, &mut host, keys, LAST)?;
+    assert!(rt; is_left(past, turn, &had), "{turn} {choice} {had:?}");
     Ok(())
 }
 
-fn crashes_hold(rt: &impl Abort, alloc: Global, sync_writes: bool) -> Result<(), Fail> {
-    let mut host = MemoryHost::new(alloc, Vec::new(alloc), Vec::new(alloc), Vec::new(alloc), 0)?;
+fn crashes_hold(
+    rt: &impl Abort,
+    alloc: Global,
+    table: &Table,
+    sync_writes: bool,
+) -> Result<(), Fail> {
+    let mut host = empty_host(alloc)?;
+    let mut heap = empty_heap(alloc)?;
     let settings = settings_of(alloc, sync_writes)?;
     let mut past = Past {
         turns: Vec::new(alloc),
         texts: Vec::new(alloc),
+        promises: Vec::new(alloc),
     };
-    let [one, two, three, four] = &SESSIONS[0].1;
-    let mut store = open(rt, alloc, &mut host, &settings, |_| false, 1000)?;
-    row_passes(alloc, &mut store, &mut host, &mut past, one, 1000)?;
-    row_passes(alloc, &mut store, &mut host, &mut past, two, 1000)?;
-    row_passes(alloc, &mut store, &mut host, &mut past, three, 1000)?;
-    row_passes(alloc, &mut store, &mut host, &mut past, four, 1000)?;
+    let keys = &table.keys;
+    let [one, two, three] = &table.sessions;
+    session_passes(
+        rt, alloc, &mut host, &mut heap, &mut past, &settings, keys, one,
+    )?;
+    session_passes(
+        rt, alloc, &mut host, &mut heap, &mut past, &settings, keys, two,
+    )?;
+    session_passes(
+        rt, alloc, &mut host, &mut heap, &mut past, &settings, keys, three,
+    )?;
     for turn in 0..=host.turns() {
         for choice in 0..8 {
-            crash_holds(rt, alloc, &host, &past, &settings, turn, choice)?;
+            crash_holds(rt, alloc, &host, &past, &settings, keys, turn, choice)?;
         }
     }
     Ok(())
@@ -422,6 +582,9 @@ fn crashes_hold(rt: &impl Abort, alloc: Global, sync_writes: bool) -> Result<(),
 
 #[test]
 fn crashes_leave_changes_that_were_begun(rt: HostRuntime) -> Result<(), Fail> {
-    crashes_hold(&rt, rt.alloc(), true)?;
-    crashes_hold(&rt, rt.alloc(), false)
+    for table in [&LONG, &SHORT] {
+        crashes_hold(&rt, rt.alloc(), table, true)?;
+        crashes_hold(&rt, rt.alloc(), table, false)?;
+    }
+    Ok(())
 }
