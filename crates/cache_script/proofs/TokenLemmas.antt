@@ -1,11 +1,11 @@
 -- What tokens stand for.
-use Rattle.std.proofs.Common.{◌≡◌, ℕ, suc, ◌<◌, ◌≤◌, true, false, cond, List, [], ◌∷◌, ◌++◌, length, Option, Some, None, refl, sym, ◌∙◌, ap, arith, append_assoc, codes}
-use Rattle.std.specs.Prelude.{option_map, unwrap_or}
+use Rattle.std.proofs.Common.{◌≡◌, ℕ, suc, ◌<◌, ◌≤◌, true, false, cond, List, [], ◌∷◌, ◌++◌, length, Option, Some, None, refl, sym, ◌∙◌, ap, arith, append_assoc, append-nil, codes}
+use Rattle.std.specs.Prelude.{option_map, unwrap_or, IfSome}
 use Rattle.std.specs.Str.{bytes_eq}
 use Rattle.std.proofs.lemmas.Bool.{cond-false}
 use Rattle.std.proofs.lemmas.Slice.Eq.{bytes_eq-Decides}
 use Rattle.cache_model.specs.Tokens.{is_plain_byte, is_escape, escaped_byte, behind_byte, pieces_value, token_value}
-use Rattle.cache_script.specs.Pieces.{Cuts}
+use Rattle.cache_script.specs.Pieces.{Cuts, AddsNothing}
 use Rattle.cache_script.specs.Tokens.{bytes_behind, IsToken}
 
 -- no word of no bytes is a token
@@ -106,6 +106,22 @@ append-pieces added piece None = refl
 append-pieces added piece (Some more) = ap Some (sym (append_assoc added piece more))
 
 -- the bytes that pieces stand for, once those of one of them are added
-pub added-more : (whole bytes piece rest out added : List ℕ) → option_map (λ l. out ++ l) (pieces_value whole) ≡ option_map (λ l. added ++ l) (pieces_value bytes) → Cuts bytes piece rest → option_map (λ l. out ++ l) (pieces_value whole) ≡ option_map (λ l. (added ++ piece) ++ l) (pieces_value rest)
-added-more whole bytes piece rest out added before cuts =
+pub added-more : (whole bytes piece : List ℕ) (count : ℕ) (rest out added : List ℕ) → option_map (λ l. out ++ l) (pieces_value whole) ≡ option_map (λ l. added ++ l) (pieces_value bytes) → Cuts bytes piece count rest → option_map (λ l. out ++ l) (pieces_value whole) ≡ option_map (λ l. (added ++ piece) ++ l) (pieces_value rest)
+added-more whole bytes piece count rest out added before cuts =
     before ∙ ap (λ o. option_map (λ l. added ++ l) o) cuts.value ∙ append-pieces added piece (pieces_value rest)
+
+some_same : (one other : List ℕ) → Some one ≡ Some other → one ≡ other
+some_same one other is = cc
+
+-- what was added, once no piece is left
+pub added-all : (whole rest old out new : List ℕ) → option_map (λ l. old ++ l) (pieces_value whole) ≡ option_map (λ l. out ++ l) (pieces_value rest) → AddsNothing rest out new → IfSome (pieces_value whole) (λ bytes. new ≡ old ++ bytes)
+added-all whole [] old out new before nothing =
+    elim (pieces_value whole) as (λ found. option_map (λ l. old ++ l) found ≡ Some (out ++ []) → IfSome found (λ bytes. new ≡ old ++ bytes)) [
+      | None ↦ λ none. tt
+      | Some bytes ↦ λ some. nothing.1 ∙ sym (append-nil out) ∙ sym (some_same (old ++ bytes) (out ++ []) some)
+    ] before
+added-all whole (byte ∷ rest) old out new before nothing =
+    elim (pieces_value whole) as (λ found. option_map (λ l. old ++ l) found ≡ option_map (λ l. out ++ l) (pieces_value (byte ∷ rest)) → IfSome found (λ bytes. new ≡ old ++ bytes)) [
+      | None ↦ λ none. tt
+      | Some bytes ↦ λ some. absurd (let no : Some (old ++ bytes) ≡ None = some ∙ ap (λ o. option_map (λ l. out ++ l) o) (nothing.0 (omega arith)) in cc)
+    ] before

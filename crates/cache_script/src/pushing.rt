@@ -1,9 +1,9 @@
 // Bytes and tokens that are said.
 ghost use Rattle.std.specs.Prelude.{◌≡◌, ◌∷◌, [], ◌<◌, ◌/◌, ◌%◌, flat_map, length};
 ghost use Rattle.cache_model.specs.Tokens.{hex_digit, byte_text, token_text};
-ghost use Rattle.cache_script.specs.Pushing.{Pushes, PushesPiece};
+ghost use Rattle.cache_script.specs.Pushing.{Pushes, PushesEscapes, PushesPiece};
 
-use crate::tokens::plain_count;
+use crate::tokens::{are_plain, is_plain_byte, plain_count};
 use std::alloc::AllocError;
 
 /// Adds some bytes. Where memory is wanted for them, nothing is added.
@@ -28,15 +28,27 @@ fn push_escape(out: &mut Vec<u8>, byte: u8) -> Result<(), AllocError>
     push_bytes(out, &[b'%', hex_digit(byte / 16), hex_digit(byte % 16)])
 }
 
-// Adds the first bytes as a part of a token, and says how many: those that stand for themselves, or one that doesn't.
+// Adds the bytes at the front that don't stand for themselves, each as an escape, and says how many.
+fn push_escapes(out: &mut Vec<u8>, bytes: &[u8]) -> Result<usize, AllocError>
+    ensures { PushesEscapes bytes.now out.old.items out.new.items result }
+{
+    for (at, byte) in bytes.iter().enumerate() {
+        if is_plain_byte(*byte) {
+            return Ok(at);
+        }
+        push_escape(out, *byte)?;
+    }
+    Ok(bytes.len())
+}
+
+// Adds the first bytes as a part of a token, and says how many: those that stand for themselves, or those that don't.
 fn push_piece(out: &mut Vec<u8>, bytes: &[u8]) -> Result<usize, AllocError>
     requires { 0 < length bytes.now }
     ensures { PushesPiece bytes.now out.old.items out.new.items result }
 {
     let count = plain_count(bytes);
     if count == 0 {
-        push_escape(out, bytes[0])?;
-        return Ok(1);
+        return push_escapes(out, bytes);
     }
     push_bytes(out, &bytes[..count])?;
     Ok(count)
@@ -60,6 +72,7 @@ pub fn push_token(out: &mut Vec<u8>, bytes: &[u8]) -> Result<(), AllocError>
 {
     match bytes {
         [] => push_bytes(out, b"%."),
+        [_, ..] if are_plain(bytes) => push_bytes(out, bytes),
         [_, ..] => push_pieces(out, bytes),
     }
 }

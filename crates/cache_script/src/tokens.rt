@@ -1,10 +1,11 @@
 // Tokens that are read: how the bytes of keys and values are written in lines.
-ghost use Rattle.std.specs.Prelude.{◌≡◌, ◌<◌, ◌≤◌, ◌++◌, drop, length, option_map, MatchOption, IfOk, IfSome, OnOk, IfErr, None};
-ghost use Rattle.std.specs.List.{prefix_len};
+ghost use Rattle.std.specs.Prelude.{◌≡◌, ◌*◌, ◌<◌, ◌≤◌, ◌++◌, drop, length, option_map, MatchOption, IfOk, IfSome, OnOk, IfErr, None};
+ghost use Rattle.std.specs.List.{prefix_len, list_all};
+ghost use Rattle.std.specs.Char.{is_digit};
 ghost use Rattle.cache_model.specs.Tokens.{is_plain_byte, token_value, pieces_value};
 ghost use Rattle.cache_model.specs.Lines.{key_refusal, value_refusal};
 ghost use Rattle.cache_model.specs.Limits.{IsKeyLength, IsValueLength};
-ghost use Rattle.cache_script.specs.Pieces.{hex_value, escape_at, piece_bytes, Cuts};
+ghost use Rattle.cache_script.specs.Pieces.{hex_value, escape_at, escaped, front, Cuts, HasNoPiece, AddsNothing, AddsFront};
 ghost use Rattle.cache_script.specs.Tokens.{first_token};
 ghost use Rattle.cache_script.specs.Refusals.{refusal_of};
 ghost use Rattle.cache_script.specs.declared.faults.LineFault.TheVariants.{Memory};
@@ -16,10 +17,21 @@ use std::alloc::{AllocError, Global};
 use std::marker::Model;
 
 /// Whether a byte stands for itself.
-fn is_plain_byte(byte: u8) -> bool
+pub fn is_plain_byte(byte: u8) -> bool
     ensures { result ≡ is_plain_byte byte }
 {
     33 <= byte && byte <= 126 && byte != b'%'
+}
+
+/// Whether each byte stands for itself. No byte ends the loop early, so that many are looked at in one step.
+pub fn are_plain(bytes: &[u8]) -> bool
+    ensures { result ≡ list_all is_plain_byte bytes.now }
+{
+    let mut all = true;
+    for byte in bytes {
+        all &= is_plain_byte(*byte);
+    }
+    all
 }
 
 /// How many bytes at the front stand for themselves.
@@ -35,15 +47,23 @@ pub fn plain_count(bytes: &[u8]) -> usize
     bytes.len()
 }
 
-// The value of a hexadecimal digit.
+// Whether a byte is a hexadecimal digit. It is worked out without a choice, since a long value has many.
+fn is_hex(byte: u8) -> bool
+    ensures { result ≡ is_digit byte 16 }
+{
+    (b'0' <= byte) & (byte <= b'9')
+        | (b'A' <= byte) & (byte <= b'F')
+        | (b'a' <= byte) & (byte <= b'f')
+}
+
+// The value of a hexadecimal digit: the digits begin at 48, and the letters at 65 and 97.
 fn hex_value(byte: u8) -> Option<u8>
     ensures { result ≡ hex_value byte }
 {
-    match byte {
-        b'0'..=b'9' => Some(byte - b'0'),
-        b'A'..=b'F' => Some(byte - b'A' + 10),
-        b'a'..=b'f' => Some(byte - b'a' + 10),
-        _ => None,
+    if is_hex(byte) {
+        Some(byte % 16 + 9 * (byte / 64))
+    } else {
+        None
     }
 }
 
@@ -57,50 +77,46 @@ fn escape_at(bytes: &[u8]) -> Option<u8>
     Some(16 * hex_value(*high)? + hex_value(*low)?)
 }
 
-// A piece of a token.
-#[derive(Drop)]
-enum Piece<'a> {
-    // Bytes that stand for themselves.
-    Run(&'a [u8]),
-    // The byte that an escape stands for.
-    Escape(u8),
-}
-
-impl Piece<'_> {
-    // How many bytes it stands for.
-    fn count(&self) -> usize
-        ensures { result ≡ length (piece_bytes self.now) }
-    {
-        match self {
-            Piece::Run(run) => run.len(),
-            Piece::Escape(_) => 1,
-        }
-    }
-
-    // Adds the bytes that it stands for.
-    fn push_to(&self, out: &mut Vec<u8>) -> Result<(), AllocError>
-        ensures { OnOk result (out.new.items ≡ out.old.items ++ piece_bytes self.now) }
-    {
-        match self {
-            Piece::Run(run) => out.extend_from_slice(run),
-            Piece::Escape(byte) => Ok(out.push(*byte)?),
-        }
-    }
-}
-
-// The first piece of some bytes, and what stands behind it.
-fn cut_piece(bytes: &[u8]) -> Option<(Piece<'_>, &[u8])>
-    ensures { MatchOption result (0 < length bytes.now → pieces_value bytes.now ≡ None) (λ cut. Cuts bytes.now (piece_bytes cut.0) cut.1.now) }
+// How many escapes stand at the front, one behind another.
+fn escapes_count(bytes: &[u8]) -> usize
+    ensures count { result ≡ length (escaped bytes.now) }
+    ensures within { 3 * result ≤ length bytes.now }
 {
-    let count = plain_count(bytes);
-    if count > 0 {
-        let (run, rest) = bytes.split_at(count);
-        return Some((Piece::Run(run), rest));
+    let mut rest = bytes;
+    let mut count = 0;
+    while let Some(_) = escape_at(rest) {
+        rest = &rest[3..];
+        count += 1;
     }
-    match escape_at(bytes) {
-        Some(byte) => Some((Piece::Escape(byte), &bytes[3..])),
-        None => None,
+    count
+}
+
+// What is left behind the first piece of some bytes, and how many bytes the piece stands for: a run of bytes that stand
+// for themselves, or of escapes.
+#[derive(Drop)]
+struct Cut<'a> {
+    count: usize,
+    rest: &'a [u8],
+}
+
+// Cuts off the first piece of some bytes, where there is one.
+fn cut_piece(bytes: &[u8]) -> Option<Cut<'_>>
+    ensures { MatchOption result (HasNoPiece bytes.now) (λ cut. Cuts bytes.now (front bytes.now) cut.count cut.rest.now) }
+{
+    let plain = plain_count(bytes);
+    if plain > 0 {
+        let rest = &bytes[plain..];
+        return Some(Cut { count: plain, rest });
     }
+    let escapes = escapes_count(bytes);
+    if escapes == 0 {
+        return None;
+    }
+    let rest = &bytes[3 * escapes..];
+    Some(Cut {
+        count: escapes,
+        rest,
+    })
 }
 
 // How many bytes the pieces of a token stand for, where they are pieces.
@@ -109,11 +125,50 @@ fn pieces_count(pieces: &[u8]) -> Option<usize>
 {
     let mut rest = pieces;
     let mut count = 0;
-    while let Some((piece, behind)) = cut_piece(rest) {
-        count += piece.count();
-        rest = behind;
+    while let Some(cut) = cut_piece(rest) {
+        count += cut.count;
+        rest = cut.rest;
     }
     if rest.is_empty() { Some(count) } else { None }
+}
+
+// Adds the bytes that the escapes at the front stand for.
+fn push_escaped(out: &mut Vec<u8>, bytes: &[u8]) -> Result<(), AllocError>
+    ensures { OnOk result (out.new.items ≡ out.old.items ++ escaped bytes.now) }
+{
+    let mut rest = bytes;
+    while let Some(byte) = escape_at(rest) {
+        out.push(byte)?;
+        rest = &rest[3..];
+    }
+    Ok(())
+}
+
+// Adds the bytes that the escapes at the front stand for, and says how many.
+fn push_escapes(out: &mut Vec<u8>, bytes: &[u8]) -> Result<usize, AllocError>
+    ensures added { OnOk result (out.new.items ≡ out.old.items ++ escaped bytes.now) }
+    ensures count { IfOk result (λ count. count ≡ length (escaped bytes.now)) }
+    ensures within { IfOk result (λ count. 3 * count ≤ length bytes.now) }
+{
+    let before = out.len();
+    push_escaped(out, bytes)?;
+    Ok(out.len() - before)
+}
+
+// Adds the bytes that the first piece stands for, where there is one, and gives what stands behind it.
+fn push_piece<'a>(out: &mut Vec<u8>, bytes: &'a [u8]) -> Result<Option<&'a [u8]>, AllocError>
+    ensures { IfOk result (λ rest. MatchOption rest (AddsNothing bytes.now out.old.items out.new.items) (λ rest. AddsFront bytes.now out.old.items out.new.items rest.now)) }
+{
+    let plain = plain_count(bytes);
+    if plain > 0 {
+        out.extend_from_slice(&bytes[..plain])?;
+        return Ok(Some(&bytes[plain..]));
+    }
+    let escapes = push_escapes(out, bytes)?;
+    if escapes == 0 {
+        return Ok(None);
+    }
+    Ok(Some(&bytes[3 * escapes..]))
 }
 
 // Adds the bytes that the pieces of a token stand for.
@@ -121,8 +176,7 @@ fn push_pieces(out: &mut Vec<u8>, pieces: &[u8]) -> Result<(), AllocError>
     ensures { OnOk result (IfSome (pieces_value pieces.now) (λ bytes. out.new.items ≡ out.old.items ++ bytes)) }
 {
     let mut rest = pieces;
-    while let Some((piece, behind)) = cut_piece(rest) {
-        piece.push_to(out)?;
+    while let Some(behind) = push_piece(out, rest)? {
         rest = behind;
     }
     Ok(())
@@ -137,6 +191,9 @@ fn token_count(word: &[u8]) -> Option<usize>
     }
     if word == b"%.".as_slice() {
         return Some(0);
+    }
+    if are_plain(word) {
+        return Some(word.len());
     }
     pieces_count(word)
 }
@@ -208,7 +265,7 @@ impl<'a> Token<'a> {
     fn decoded(&self, alloc: Global) -> Result<Vec<u8>, AllocError>
         ensures { IfOk result (λ bytes. bytes.items ≡ self.now) }
     {
-        let mut bytes = Vec::new(alloc);
+        let mut bytes = Vec::with_capacity(alloc, self.count)?;
         if self.count > 0 {
             push_pieces(&mut bytes, self.word)?;
         }
