@@ -1,6 +1,6 @@
 -- Reading on: what a run of reads does to a window.
 use Rattle.std.proofs.Common.{◌≡◌, ℕ, ◌+◌, ◌-◌, ◌≤◌, Bool, List, length, take, drop, ◌++◌, sym, ap, ◌∙◌, arith, IsTrue, subst}
-use Rattle.std.proofs.lemmas.List.{take-take, take_at, length-take-le, length-drop, length-append, drop-drop}
+use Rattle.std.proofs.lemmas.List.{take-take, take_at, length-take-le, length-drop, length-append, drop-drop, drop-append-le}
 use Rattle.std.proofs.Math.Seq.{take-add}
 use Rattle.std.specs.Prelude.{Ok}
 use Rattle.cache_model.specs.declared.files.FileName.{FileName}
@@ -52,17 +52,18 @@ shows_more file at known wanted count shown pulled items before after given is s
     let all : items ≡ shown ++ take count (drop known file) = grown ∙ ap (λ xs. xs ++ take count given) same ∙ ap (λ xs. shown ++ xs) read in
     all ∙ read_more file at known count shown is (k ∙ ap (λ xs. at + length xs) same) within ∙ ap (λ xs. take (length xs) (drop at file)) (sym all)
 
--- what a window shows after a read behind what it showed
-pub shows_read : (name pulled_name : FileName) (a b : HostState) (at pulled_at known wanted count forgotten : ℕ) (shown pulled items before after given : List ℕ)
-    → pulled_name ≡ name → pulled_at ≡ at → shown ≡ take (length shown) (drop at (bytes_in a.files name)) → pulled ≡ shown → known ≡ pulled_at + length pulled
-    → Read pulled_name known (take wanted before) (take wanted after) a b (Ok count) → count ≤ wanted
-    → items ≡ pulled ++ take count given → given ≡ after → forgotten ≡ 0
-    → drop forgotten items ≡ take (length (drop forgotten items)) (drop pulled_at (bytes_in a.files name))
-shows_read name pulled_name a b at pulled_at known wanted count forgotten shown pulled items before after given named placed is same k told fits grown gives none =
+-- What a window shows after a read behind what it showed. In its room so many bytes lie before them, which are forgotten.
+pub shows_read : (name roomy_name : FileName) (a b : HostState) (at roomy_at known wanted count forgotten : ℕ) (shown room items before after given : List ℕ)
+    → roomy_name ≡ name → roomy_at ≡ at → shown ≡ take (length shown) (drop at (bytes_in a.files name)) → drop forgotten room ≡ shown → forgotten ≤ length room
+    → known ≡ roomy_at + length (drop forgotten room)
+    → Read roomy_name known (take wanted before) (take wanted after) a b (Ok count) → count ≤ wanted
+    → items ≡ room ++ take count given → given ≡ after
+    → drop forgotten items ≡ take (length (drop forgotten items)) (drop roomy_at (bytes_in a.files name))
+shows_read name roomy_name a b at roomy_at known wanted count forgotten shown room items before after given named placed is same fits_room k told fits grown gives =
     let file : List ℕ = bytes_in a.files name in
     let front : take wanted after ≡ take count (drop known file) ++ drop count (take wanted before) =
     subst (λ (n : FileName). take wanted after ≡ take count (drop known (bytes_in a.files n)) ++ drop count (take wanted before)) named told.front in
     let within : count ≤ length file - known = subst (λ (n : FileName). count ≤ length (bytes_in a.files n) - known) named told.within in
-    let shown_at : shown ≡ take (length shown) (drop pulled_at file) = subst (λ n. shown ≡ take (length shown) (drop n file)) (sym placed) is in
-    subst (λ n. drop n items ≡ take (length (drop n items)) (drop pulled_at file)) (sym none)
-    (shows_more file pulled_at known wanted count shown pulled items before after given shown_at same k front fits within grown gives)
+    let shown_at : shown ≡ take (length shown) (drop roomy_at file) = subst (λ n. shown ≡ take (length shown) (drop n file)) (sym placed) is in
+    let grown_behind : drop forgotten items ≡ drop forgotten room ++ take count given = ap (drop forgotten) grown ∙ drop-append-le forgotten room (take count given) fits_room in
+    shows_more file roomy_at known wanted count shown (drop forgotten room) (drop forgotten items) before after given shown_at same k front fits within grown_behind gives

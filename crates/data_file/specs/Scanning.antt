@@ -1,9 +1,11 @@
 -- What a scan of a file has still to give.
-use Rattle.std.specs.Prelude.{◌≡◌, ℕ, ◌+◌, ◌-◌, Bool, true, false, List, length, drop, Option, Result, IfOk, OnOk, IsErrOf, MatchOption}
+use Rattle.std.specs.Prelude.{◌≡◌, ℕ, ◌+◌, ◌-◌, ◌≤◌, Bool, true, false, List, length, drop, Option, Result, IfOk, OnOk, IsErrOf, MatchOption}
 use Rattle.cache_model.specs.declared.files.FileName.{FileName}
 use Rattle.cache_model.specs.declared.faults.Damage.{Damage}
 use Rattle.cache_model.specs.declared.faults.StoreFault.{StoreFault}
 use Rattle.cache_model.specs.declared.faults.StoreFault.TheVariants.{Damaged}
+use Rattle.cache_model.specs.Files.{bytes_in}
+use Rattle.cache_disk.specs.State.{HostState, Stands}
 use Rattle.cache_model.specs.Items.{Item, put, removal, end, IsItem, spelling}
 use Rattle.cache_model.specs.DataFiles.{Found, nothing, damaged, and_then, found_at_gate, found_within, found_in}
 use Rattle.record_format.specs.Meaning.{own_item}
@@ -11,7 +13,7 @@ use Rattle.data_file.specs.declared.scan.Stage.{Stage}
 use Rattle.data_file.specs.declared.scan.Stage.TheVariants.{Front, Item as DueItem, Gate, End}
 use Rattle.data_file.specs.declared.scan.Scanned.{Scanned}
 use Rattle.data_file.specs.declared.scan.Scan.{Scan}
-use Rattle.data_file.specs.Windows.{known_to, ShowsFile}
+use Rattle.data_file.specs.Windows.{known_to, ShowsFile, AsksFor}
 
 -- the file that it reads
 abbrev pub scanned_name : Scan → FileName
@@ -76,6 +78,17 @@ pub record HasGiven (old new : Scan) (file : List ℕ) (result : Result (Option 
   pub scans : OnOk result (IsScanOf new file)
   pub given : IfOk result (λ found. MatchOption found ((rest_of old file ≡ nothing) × (rest_of new file ≡ nothing)) (λ one. rest_of old file ≡ and_then (one.place.at, own_item one.item) (rest_of new file)))
   pub damage : NamesDamage (scanned_name old) (rest_of old file) result
+
+-- What a call of `next` does to a scan of a file: nothing but reading on, no byte is asked for twice, and it gives the next item.
+pub record HasGoneOn (old new : Scan) (before after : HostState) (result : Result (Option Scanned) StoreFault) : Type 0 where
+  pub stands : Stands before after
+  -- the offset up to which the file was read doesn't fall
+  pub reads : read_to old ≤ read_to new
+  -- what was asked for is what was read
+  pub asked : OnOk result (AsksFor before after (read_to new - read_to old))
+  -- it is a scan of the same file
+  pub scans : OnOk result (IsScanOf new (bytes_in after.files (scanned_name old)))
+  pub given : HasGiven old new (bytes_in before.files (scanned_name old)) result
 
 -- The item that was due was found, and what stands behind it is still to give.
 pub record HasFound (old new : Scan) (file : List ℕ) (result : Result Scanned StoreFault) : Type 0 where

@@ -8,7 +8,7 @@ ghost use Rattle.cache_disk.specs.Calls.{HasStoreCause};
 ghost use Rattle.record_format.specs.Meaning.{own_item, item_in, AreParts};
 ghost use Rattle.cache_model.specs.Items.{IsItem, spelling};
 ghost use Rattle.data_file.specs.Windows.{shown_bytes, AsksFor};
-ghost use Rattle.data_file.specs.Scanning.{scanned_name, is_spoilt, left_of, read_to, rest_of, IsScanOf, stage_behind, HasGiven, HasFound, HasPassed, IsGiven, Begins};
+ghost use Rattle.data_file.specs.Scanning.{scanned_name, is_spoilt, left_of, read_to, rest_of, IsScanOf, stage_behind, HasGiven, HasGoneOn, HasFound, HasPassed, IsGiven, Begins};
 
 use crate::window::Window;
 use cache_disk::Host;
@@ -59,6 +59,14 @@ fn opens(bytes: &[u8]) -> bool
     bytes.len() >= 2 && bytes[0] == OPEN
 }
 
+// What is due at the front of a file with so many bytes.
+fn stage_in_front(size: u64) -> Stage
+    ensures short { size < 2 → result ≡ Stage.End }
+    ensures long { 2 ≤ size → result ≡ Stage.Front }
+{
+    if size < 2 { Stage::End } else { Stage::Front }
+}
+
 // What is due behind an item.
 fn stage_behind(item: &OwnItem) -> Stage
     ensures { result ≡ stage_behind (own_item item.now) }
@@ -78,13 +86,23 @@ impl Scan {
         ensures memory { OnErr result (result ≡ Err Memory) }
     {
         let window = Window::new(alloc, name, size)?;
-        let stage = if size < 2 { Stage::End } else { Stage::Front };
         Ok(Scan {
             alloc,
             window,
-            stage,
+            stage: stage_in_front(size),
             spoilt: false,
         })
+    }
+
+    /// Goes on with another file, as a new scan of it does. The memory that the scan has serves for all of its files.
+    pub fn reopen(&mut self, name: FileName, size: u64)
+        ensures named { scanned_name self.new ≡ name }
+        ensures sound { is_spoilt self.new ≡ false }
+        ensures begins { Begins size self.new }
+    {
+        self.window.reopen(name, size);
+        self.stage = stage_in_front(size);
+        self.spoilt = false;
     }
 
     /// The next item of the counted frames, None behind the last. After a fault the scan is spoilt.
@@ -97,11 +115,7 @@ impl Scan {
         ensures spoilt { OnErr result (is_spoilt self.new ≡ true) }
         ensures goes { IfOk result (λ found. IfSome found (λ _. left_of self.new < left_of self.old)) }
         ensures limits { IfOk result (λ found. IfSome found (IsGiven (scanned_name self.old))) }
-        ensures stands { IsTrue H.tells → Stands (H.state host.old) (H.state host.new) }
-        ensures reads { read_to self.old ≤ read_to self.new }
-        ensures asked { IsTrue H.tells → OnOk result (AsksFor (H.state host.old) (H.state host.new) (read_to self.new - read_to self.old)) }
-        ensures scans { IsTrue H.tells → OnOk result (IsScanOf self.new (bytes_in (H.state host.new).files (scanned_name self.old))) }
-        ensures told { IsTrue H.tells → HasGiven self.old self.new (bytes_in (H.state host.old).files (scanned_name self.old)) result }
+        ensures told { IsTrue H.tells → HasGoneOn self.old self.new (H.state host.old) (H.state host.new) result }
         ensures spent { (spent : Spent) → IsErrOf result (StoreFault.Spent spent) → ⊥ }
         ensures cause { HasStoreCause (H.state host.old) (H.state host.new) result }
     {

@@ -12,8 +12,11 @@ use std::alloc::Global;
 /// No item has more bytes.
 pub const ITEM_LIMIT: usize = 66_583;
 
-/// How many bytes are read at once, where the file has so many.
+// How many bytes are read at once, where the file has so many.
 const READ_SIZE: usize = 65_536;
+
+// How many bytes a window has room for.
+const ROOM: usize = ITEM_LIMIT + READ_SIZE;
 
 /// A part of a file, which is read on and forgotten from its front.
 #[derive(Debug, Drop)]
@@ -83,7 +86,7 @@ impl Window {
         ensures empty { IfOk result (λ window. length (shown_bytes window) ≡ 0) }
         ensures memory { OnErr result (result ≡ Err Memory) }
     {
-        let bytes = room(alloc, ITEM_LIMIT + READ_SIZE)?;
+        let bytes = room(alloc, ROOM)?;
         let buffer = zeros(alloc, READ_SIZE)?;
         Ok(Window {
             name,
@@ -93,6 +96,20 @@ impl Window {
             forgotten: 0,
             buffer,
         })
+    }
+
+    /// Goes to the front of another file of this size, of which nothing was read yet. The room stays.
+    pub fn reopen(&mut self, name: FileName, size: u64)
+        ensures named { self.new.name ≡ name }
+        ensures sized { self.new.size ≡ size }
+        ensures front { self.new.at ≡ 0 }
+        ensures empty { length (shown_bytes self.new) ≡ 0 }
+    {
+        self.name = name;
+        self.size = size;
+        self.at = 0;
+        self.bytes.clear();
+        self.forgotten = 0;
     }
 
     /// The bytes of the window.
@@ -152,17 +169,30 @@ impl Window {
         ensures whole { IsTrue H.tells → IfOk result (λ more. more ≡ false → known_to self.new ≡ self.new.size) }
         ensures cause { DiskCause (H.state host.old) (H.state host.new) result }
     {
-        self.pull();
-        let known = self.at + self.bytes.len() as u64;
+        let known = self.at + self.bytes().len() as u64;
         let left = self.size - known;
         if left == 0 {
             return Ok(false);
         }
         let wanted = left.min(READ_SIZE as u64) as usize;
+        self.make_room(wanted);
         let count = read_into(host, self.name, known, &mut self.buffer, wanted)?;
         match self.bytes.extend_from_slice(&self.buffer[..count]) {
             Ok(()) => Ok(count > 0),
             Err(_) => Err(HostFault::Memory),
+        }
+    }
+
+    // Makes room for so many bytes behind those of the window, which are moved only where there is none.
+    fn make_room(&mut self, wanted: usize)
+        requires { wanted ≤ 65536 }
+        ensures same { shown_bytes self.new ≡ shown_bytes self.old }
+        ensures named { self.new.name ≡ self.old.name }
+        ensures sized { self.new.size ≡ self.old.size }
+        ensures at { self.new.at ≡ self.old.at }
+    {
+        if self.bytes.len() > ROOM - wanted {
+            self.pull();
         }
     }
 

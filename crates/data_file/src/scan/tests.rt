@@ -196,3 +196,52 @@ fn a_record_at_the_end_of_what_is_read_at_once(rt: HostRuntime) -> Result<(), Fa
     }
     Ok(())
 }
+
+// All that is given of a file with these bytes by a scan that goes on with it.
+fn given_next<H: Host>(
+    alloc: Global,
+    host: &mut H,
+    scan: &mut Scan,
+    bytes: &[u8],
+) -> Result<Vec<Seen>, StoreFault>
+    requires { IsTrue H.tells → AllLeft (H.state host.old) (λ image. file_in image NAME ≡ None) }
+{
+    host.create(NAME)?;
+    host.write(NAME, 0, bytes)?;
+    scan.reopen(NAME, bytes.len() as u64);
+    all_given(alloc, host, scan)
+}
+
+#[test]
+fn one_scan_for_many_files(rt: HostRuntime) -> Result<(), Fail> {
+    let alloc = rt.alloc();
+    let mut scan = Scan::new(alloc, NAME, 0)?;
+    // Nothing of a file, damaged or not, is left for the next one.
+    let cases: [(&[&[u8]], Option<&[Seen]>); 6] = [
+        (
+            &[FRONT, REMOVAL, ENDING, CLOSED],
+            Some(&[(2, false), (14, true)]),
+        ),
+        (&[FRONT, REMOVAL, &[9]], None),
+        (&[FRONT, ENDING, CLOSED], Some(&[(2, true)])),
+        (&[], Some(&[])),
+        (&[OPENED, &[7]], None),
+        (
+            &[FRONT, REMOVAL, REMOVAL, ENDING, CLOSED],
+            Some(&[(2, false), (14, false), (26, true)]),
+        ),
+    ];
+    for (i, (parts, want)) in cases.iter().enumerate() {
+        let mut host = MemoryHost::new(
+            alloc,
+            Vec::new(alloc),
+            Vec::new(alloc),
+            Vec::new(alloc),
+            5,
+        )?;
+        let bytes = joined(alloc, parts)?;
+        let seen = given_next(alloc, &mut host, &mut scan, &bytes).ok();
+        assert_eq!(rt; seen.as_deref(), *want, "case {i}");
+    }
+    Ok(())
+}
