@@ -12,9 +12,8 @@ use Rattle.cache_model.specs.Items.{Item, end}
 use Rattle.cache_model.specs.DataFiles.{counted_items, IsUndamaged}
 use Rattle.cache_model.specs.Images.{log_name, IsCounted, key_of, sequence_of, IsMark, IsSound, IsFirstDamage}
 use Rattle.soft_index.specs.declared.newest.Table.{Table}
-use Rattle.cache_disk.specs.State.{HostState, SameFiles, Stands}
+use Rattle.cache_disk.specs.State.{HostState, SameFiles}
 use Rattle.cache_disk.specs.Calls.{AllLeft}
-use Rattle.cache_disk.proofs.Runs.{Stands-left}
 use Rattle.soft_index.specs.Opening.{Counted, Records, kept_of, counted_in, counted_of, IsNewestOf, StandsForItems, SameLogs, AreUndamaged, IsBehind, IsDamageAmong, IsFirstDamageOf}
 use Rattle.soft_index.specs.declared.newest.Newest.{Newest}
 use Rattle.soft_index.specs.declared.log_store.LogStore.{LogStore}
@@ -183,20 +182,16 @@ pub if-ok : {T E : Type 0} (answer : Result T E) (P Q : T → Type 0) → IfOk a
 if-ok (Ok x) P Q is goes = goes x is
 if-ok (Err fault) P Q is goes = tt
 
+pub if-ok-both : {T E : Type 0} (answer : Result T E) (S : Type 0) (P Q : T → Type 0) → OnOk answer S → IfOk answer P → ((x : T) → S → P x → Q x) → IfOk answer Q
+if-ok-both (Ok x) S P Q on is goes = goes x on is
+if-ok-both (Err fault) S P Q on is goes = tt
+
 pub if-ok-on : {T E : Type 0} (answer : Result T E) (P : T → Type 0) (Q : Type 0) → IfOk answer P → ((x : T) → P x → Q) → OnOk answer Q
 if-ok-on (Ok x) P Q is goes = goes x is
 if-ok-on (Err fault) P Q is goes = tt
 
 logs-back : (a b : Image) → SameFiles a b → SameLogs b a
 logs-back a b same n = sym (same (log_name n))
-
-all-numbers-there : (a b : Image) (numbers : List ℕ) → SameFiles a b → AreAllNumbers a numbers → AreAllNumbers b numbers
-all-numbers-there a b numbers same each n = subst (λ (f : Option (List ℕ)). Contains numbers n ↔ IsSome f) (sym (same (log_name n))) (each n)
-
--- a damage that was found is the first
-pub damage-from : (a b : Image) (numbers : List ℕ) (damage : Damage) → AreAllNumbers a numbers → IsNonDecreasing numbers → SameFiles a b → IsDamageAmong b numbers damage → IsFirstDamageOf a damage
-damage-from a b numbers damage each rising same among =
-    first-damage-there b a damage (logs-back a b same) (first-damage b numbers damage (all-numbers-there a b numbers same each) rising among)
 
 pub damage-before : (a b : Image) (damage : Damage) → SameFiles a b → IsFirstDamageOf b damage → IsFirstDamageOf a damage
 damage-before a b damage same is = first-damage-there b a damage (logs-back a b same) is
@@ -233,79 +228,66 @@ absent files numbers file each behind = none (file_in files (log_name file)) (λ
     none (Some bytes) less = absurd (omega (arith, less refl))
 
 -- the store that was read is opened
-pub opened-from : (a b d : HostState) (numbers : List ℕ) (settings : Settings) (store : LogStore) → AreAllNumbers a.files numbers → SameFiles a.files b.files → AllLeft b (SameLogs a.files) → Stands b d → IsReadFrom b.files numbers settings store
-    → IsOpened a.files d settings store store.latest
-opened-from a b d numbers settings store each_a same all still read = record {
+pub opened-from : (a b : HostState) (numbers : List ℕ) (settings : Settings) (store : LogStore) → AreAllNumbers a.files numbers → SameFiles a.files b.files → AllLeft b (SameLogs a.files) → IsReadFrom a.files numbers settings store
+    → IsOpened a.files b settings store store.latest
+opened-from a b numbers settings store each same images read = record {
   stands = record {
-    log = subst (λ log. IsFileOf log store.file d [] []) (sym read.made.log) (refl, refl, λ image left. images image left store.file ∙ none);
+    log = subst (λ log. IsFileOf log store.file b [] []) (sym read.made.log) (refl, refl, λ image left. images image left store.file ∙ none);
     named = subst (λ log. IsNamed log store.file) (sym read.made.log) tt;
     others = λ image left n other. images image left n ∙ sym (there n);
-    sound = λ n bytes other is. is-sound b.files numbers each read.undamaged n bytes (sym (still.files (log_name n)) ∙ is);
+    sound = λ n bytes other is. is-sound a.files numbers each read.undamaged n bytes (sym (there n) ∙ is);
     content = λ key.
-        reading-same (IsCounted b.files) (Holds store.file (placed_of [] []) d.files) key (read_in (content_of store) key)
+        reading-same (IsCounted a.files) (Holds store.file (placed_of [] []) b.files) key (read_in (content_of store) key)
         (λ n at item of_key counted. kept n at item counted)
         (λ n at item of_key counted. only n at item counted)
         (reads key);
-    above = λ n at item key counted of_key. omega (arith, is-above b.files numbers read.table each read.stands n at item key (only n at item counted) of_key, read.made.next);
+    above = λ n at item key counted of_key. omega (arith, is-above a.files numbers read.table each read.stands n at item key (only n at item counted) of_key, read.made.next);
     mark = λ n at m counted. omega (arith, mark.bound n at m (only n at (end m) counted), read.made.latest);
     pending = λ is. refl;
     beyond = λ n above. there n ∙ nothing n above;
     rests = λ is image left. images image left store.file ∙ sym (there store.file);
   };
-  content = λ key.
-      reading-same (IsCounted b.files) (IsCounted a.files) key (read_in (content_of store) key)
-      (λ n at item of_key counted. counted-there b.files a.files n at item back counted)
-      (λ n at item of_key counted. counted-back b.files a.files n at item back counted)
-      (reads key);
-  mark_is = subst (λ m. IsMark a.files m) (sym read.made.latest) (mark-there b.files a.files read.table.mark back mark);
+  content = reads;
+  mark_is = subst (λ m. IsMark a.files m) (sym read.made.latest) mark;
   latest = refl;
-  sound = sound-there b.files a.files back (is-sound b.files numbers each read.undamaged);
-  next = subst (λ n. IsNextSequence a.files n) (sym read.made.next) (next-there b.files a.files read.table.next back (is-next b.files numbers read.table each read.stands));
-  number = is-next-file a.files numbers store.file each_a read.behind;
+  sound = is-sound a.files numbers each read.undamaged;
+  next = subst (λ n. IsNextSequence a.files n) (sym read.made.next) (is-next a.files numbers read.table each read.stands);
+  number = is-next-file a.files numbers store.file each read.behind;
   goes_by = read.made.goes_by;
 }
   where
-    each : AreAllNumbers b.files numbers
-    each = all-numbers-there a.files b.files numbers same each_a
-
-    back : SameLogs b.files a.files
-    back n = sym (same (log_name n))
-
-    there : (n : ℕ) → file_in d.files (log_name n) ≡ file_in a.files (log_name n)
-    there n = still.files (log_name n) ∙ same (log_name n)
-
-    images : AllLeft d (SameLogs a.files)
-    images = Stands-left b d (SameLogs a.files) still all
+    there : (n : ℕ) → file_in b.files (log_name n) ≡ file_in a.files (log_name n)
+    there n = same (log_name n)
 
     none : file_in a.files (log_name store.file) ≡ None
-    none = absent a.files numbers store.file each_a read.behind
+    none = absent a.files numbers store.file each read.behind
 
     nothing : (n : ℕ) → store.file < n → file_in a.files (log_name n) ≡ None
-    nothing n above = from (file_in a.files (log_name n)) (λ some. All-contains (λ k. k < store.file) numbers n read.behind.above ((each_a n).1 some))
+    nothing n above = from (file_in a.files (log_name n)) (λ some. All-contains (λ k. k < store.file) numbers n read.behind.above ((each n).1 some))
       where
         from : (found : Option (List ℕ)) → (IsSome found → n < store.file) → found ≡ None
         from None less = refl
         from (Some bytes) less = absurd (omega (arith, less refl, above))
 
-    mark : IsMark b.files read.table.mark
-    mark = has-mark b.files numbers read.table each read.stands
+    mark : IsMark a.files read.table.mark
+    mark = has-mark a.files numbers read.table each read.stands
 
-    reads : (key : List ℕ) → HasReading (IsCounted b.files) key (read_in (content_of store) key)
+    reads : (key : List ℕ) → HasReading (IsCounted a.files) key (read_in (content_of store) key)
     reads key =
-        subst (λ r. HasReading (IsCounted b.files) key r)
+        subst (λ r. HasReading (IsCounted a.files) key r)
         (sym (read.made.content key ∙ reads_entries read.table.records.entries key))
-        (has-reading b.files numbers key (kept_of read.table.records.entries key) each (read.stands.newest key))
+        (has-reading a.files numbers key (kept_of read.table.records.entries key) each (read.stands.newest key))
 
-    kept : (n at : ℕ) (item : Item) → IsCounted b.files n at item → Holds store.file (placed_of [] []) d.files n at item
+    kept : (n at : ℕ) (item : Item) → IsCounted a.files n at item → Holds store.file (placed_of [] []) b.files n at item
     kept n at item counted =
         inr (
-          λ is. let no : None ≡ Some counted.bytes = sym none ∙ sym (same (log_name store.file)) ∙ ap (λ k. file_in b.files (log_name k)) (sym is) ∙ counted.there in cc,
-          record { bytes = counted.bytes; there = still.files (log_name n) ∙ counted.there; counted = counted.counted },
+          λ is. let no : None ≡ Some counted.bytes = sym none ∙ ap (λ k. file_in a.files (log_name k)) (sym is) ∙ counted.there in cc,
+          record { bytes = counted.bytes; there = there n ∙ counted.there; counted = counted.counted },
         )
 
-    only : (n at : ℕ) (item : Item) → Holds store.file (placed_of [] []) d.files n at item → IsCounted b.files n at item
+    only : (n at : ℕ) (item : Item) → Holds store.file (placed_of [] []) b.files n at item → IsCounted a.files n at item
     only n at item (inl here) = absurd (omega (arith, here.1.1))
-    only n at item (inr other) = record { bytes = other.1.bytes; there = sym (still.files (log_name n)) ∙ other.1.there; counted = other.1.counted }
+    only n at item (inr other) = record { bytes = other.1.bytes; there = sym (there n) ∙ other.1.there; counted = other.1.counted }
 
 pub read-from : (files : Image) (numbers : List ℕ) (table : Table) (settings : Settings) (file : ℕ) (store : LogStore)
     → StandsForItems table (counted_of files numbers) → AreUndamaged files numbers → IsBehind numbers file → IsMadeOf table settings file store → IsReadFrom files numbers settings store

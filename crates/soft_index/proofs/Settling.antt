@@ -5,9 +5,9 @@ use Rattle.std.proofs.lemmas.List.Elements.{Contains-push_cases}
 use Rattle.cache_model.specs.Files.{Image, file_in}
 use Rattle.cache_model.specs.Images.{log_name}
 use Rattle.cache_disk.specs.declared.host.HostFault.{HostFault}
-use Rattle.cache_disk.specs.State.{HostState, SameFiles, Silent, Moves}
+use Rattle.cache_disk.specs.State.{HostState, SameFiles, Silent, Moves, Stands}
 use Rattle.cache_disk.specs.Calls.{AllLeft, Stays, Settles, HasNames, Synced, SyncedNames, TakesTurn}
-use Rattle.cache_disk.proofs.Runs.{SameFiles-same, SameFiles-trans, Silent-same, Silent-trans, started, goes_on, left_after}
+use Rattle.cache_disk.proofs.Runs.{SameFiles-same, SameFiles-trans, Silent-same, Silent-trans, Stands-moves, Stands-silent, started, goes_on, left_after}
 use Rattle.soft_index.specs.Opening.{IsSettledAll, SameLogs}
 use Rattle.cache_model.proofs.Members.{among-none}
 
@@ -29,6 +29,17 @@ syncing-more a b c answer ab turn files = record {
       (λ e m left now step. step);
   files = SameFiles-trans a.files b.files c.files ab.files files;
   silent = Silent-trans a b c ab.moves.later turn.images.later ab.silent turn.said;
+}
+
+-- a call that changed nothing
+pub syncing-stands : (a b c : HostState) → Syncing a b → Stands b c → Syncing a c
+syncing-stands a b c ab stands = record {
+  moves = goes_on a b c SameFiles SameFiles SameFiles ab.moves (Stands-moves b c SameFiles stands)
+      (λ d m left step. step)
+      (λ d e m left first now second. SameFiles-trans d e m first second)
+      (λ e m left now step. step);
+  files = SameFiles-trans a.files b.files c.files ab.files stands.files;
+  silent = Silent-trans a b c ab.moves.later (Stands-moves b c SameFiles stands).later ab.silent (Stands-silent b c stands);
 }
 
 pub settled-none : (a : HostState) → AllLeft a (IsSettledAll [] a.files)

@@ -1,17 +1,12 @@
-// The data files of a directory, and what settles them.
+// The data files of a directory.
 ghost use Rattle.std.specs.Option.{option_to_list};
-ghost use Rattle.std.specs.Prelude.{◌≡◌, ◌↔◌, ◌++◌, ℕ, filter_map, ◌+◌, ◌<◌, ◌≤◌, All, Contains, IsTrue, IsSome, IfOk, OnOk, IfErr, IsErrOf};
+ghost use Rattle.std.specs.Prelude.{◌≡◌, ◌↔◌, ◌++◌, ℕ, filter_map, ◌+◌, ◌<◌, ◌≤◌, All, Contains, IfOk, OnOk, IfErr};
 ghost use Rattle.std.specs.List.Sorted.{IsNonDecreasing};
 ghost use Rattle.cache_model.specs.declared.faults.StoreFault.TheVariants as fault;
-ghost use Rattle.cache_model.specs.declared.faults.Spent.{Spent};
-ghost use Rattle.cache_model.specs.declared.faults.Damage.{Damage};
-ghost use Rattle.cache_model.specs.Files.{IsFileName, file_in};
+ghost use Rattle.cache_model.specs.Files.{IsFileName};
 ghost use Rattle.cache_model.specs.Images.{log_name};
-ghost use Rattle.cache_disk.specs.State.{SameFiles, Silent, Moves};
-ghost use Rattle.cache_disk.specs.Calls.{DiskCause, HasStoreCause, AllLeft};
-ghost use Rattle.soft_index.specs.Opening.{number_in, IsNumber, IsBehind, IsSettledAll, SameLogs};
+ghost use Rattle.soft_index.specs.Opening.{number_in, IsNumber, IsBehind};
 
-use cache_disk::{Host, HostFault};
 use cache_model::{FileKind, FileName, StoreFault};
 use std::alloc::Global;
 
@@ -85,34 +80,4 @@ pub(crate) fn number_behind(numbers: &[u32]) -> u32
         Some(last) => *last + 1,
         None => 1,
     }
-}
-
-// Makes what is read of these data files outlast a crash.
-fn sync_files<H: Host>(host: &mut H, numbers: &[u32]) -> Result<(), HostFault>
-    requires within { All IsNumber numbers.now }
-    requires there { IsTrue H.tells → All (λ n. IsSome (file_in (H.state host.old).files (log_name n))) numbers.now }
-    ensures images { IsTrue H.tells → Moves (H.state host.old) (H.state host.new) SameFiles }
-    ensures files { IsTrue H.tells → SameFiles (H.state host.old).files (H.state host.new).files }
-    ensures settled { IsTrue H.tells → OnOk result (AllLeft (H.state host.new) (IsSettledAll numbers.now (H.state host.old).files)) }
-    ensures silent { IsTrue H.tells → Silent (H.state host.old) (H.state host.new) }
-    ensures cause { DiskCause (H.state host.old) (H.state host.new) result }
-{
-    for number in numbers {
-        host.sync(log_name(*number))?;
-    }
-    Ok(())
-}
-
-/// Makes what is read of these data files, and the names of all files, outlast a crash. They are all the data files.
-pub(crate) fn settle<H: Host>(host: &mut H, numbers: &[u32]) -> Result<(), HostFault>
-    requires within { All IsNumber numbers.now }
-    requires each { IsTrue H.tells → (n : ℕ) → (Contains numbers.now n ↔ IsSome (file_in (H.state host.old).files (log_name n))) }
-    ensures images { IsTrue H.tells → Moves (H.state host.old) (H.state host.new) SameFiles }
-    ensures files { IsTrue H.tells → SameFiles (H.state host.old).files (H.state host.new).files }
-    ensures settled { IsTrue H.tells → OnOk result (AllLeft (H.state host.new) (SameLogs (H.state host.old).files)) }
-    ensures silent { IsTrue H.tells → Silent (H.state host.old) (H.state host.new) }
-    ensures cause { DiskCause (H.state host.old) (H.state host.new) result }
-{
-    sync_files(host, numbers)?;
-    host.sync_names()
 }

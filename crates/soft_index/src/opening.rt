@@ -7,17 +7,17 @@ ghost use Rattle.cache_model.specs.declared.faults.Damage.{Damage};
 ghost use Rattle.cache_model.specs.declared.files.FileName.{FileName};
 ghost use Rattle.cache_model.specs.Files.{IsFileName, file_in};
 ghost use Rattle.cache_model.specs.Images.{IsSound, log_name};
-ghost use Rattle.cache_disk.specs.State.{SameFiles, Silent, Moves, Stands};
-ghost use Rattle.cache_disk.specs.Calls.{HasStoreCause};
+ghost use Rattle.cache_disk.specs.State.{SameFiles, Silent, Moves};
+ghost use Rattle.cache_disk.specs.Calls.{AllLeft, HasStoreCause};
 ghost use Rattle.store_trait.specs.Keeping.{IsSettled, SameContent};
 ghost use Rattle.store_trait.specs.Calls.{IsReady};
-ghost use Rattle.soft_index.specs.Opening.{IsNumber, IsFirstDamageOf, IsDamageAmong, AreUndamaged, IsBehind, StandsForItems, counted_of};
+ghost use Rattle.soft_index.specs.Opening.{IsNumber, IsFirstDamageOf, IsDamageAmong, SameLogs};
 ghost use Rattle.soft_index.specs.Store.{AreInRange, IsMadeOf, IsReadFrom, IsOpened, entries_of, log_facts, log_means};
 
-use crate::data_files::{number_behind, numbers_of, settle};
+use crate::data_files::{number_behind, numbers_of};
 use crate::log_store::LogStore;
 use crate::newest::{Newest, Table};
-use crate::reading::read_all;
+use crate::reading::settle_all;
 use cache_disk::Host;
 use cache_model::{FileName, Key, Settings, StoreFault};
 use std::alloc::Global;
@@ -88,7 +88,8 @@ fn store_of(
     })
 }
 
-// Reads these data files, whose numbers rise, and makes a store of what they hold.
+// Reads these data files, which are all and whose numbers rise, and makes a store of what they hold. What is read of
+// them, and the names of all files, outlast a crash.
 fn read_store<H: Host>(
     alloc: Global,
     host: &mut H,
@@ -97,15 +98,19 @@ fn read_store<H: Host>(
 ) -> Result<LogStore, StoreFault>
     requires within { All IsNumber numbers.now }
     requires rising { IsNonDecreasing numbers.now }
+    requires each { IsTrue H.tells → (n : ℕ) → (Contains numbers.now n ↔ IsSome (file_in (H.state host.old).files (log_name n))) }
     requires settings { AreInRange settings.now }
-    ensures stands { IsTrue H.tells → Stands (H.state host.old) (H.state host.new) }
+    ensures images { IsTrue H.tells → Moves (H.state host.old) (H.state host.new) SameFiles }
+    ensures files { IsTrue H.tells → SameFiles (H.state host.old).files (H.state host.new).files }
+    ensures silent { IsTrue H.tells → Silent (H.state host.old) (H.state host.new) }
+    ensures settled { IsTrue H.tells → OnOk result (AllLeft (H.state host.new) (SameLogs (H.state host.old).files)) }
     ensures read { IsTrue H.tells → IfOk result (λ store. IsReadFrom (H.state host.old).files numbers.now settings.now store) }
     ensures damaged { IsTrue H.tells → (damage : Damage) → IsErrOf result (fault.Damaged damage) → IsDamageAmong (H.state host.old).files numbers.now damage }
     ensures ready { IfOk result (λ store. IsReady (log_facts store) store.latest) }
     ensures spent { (spent : Spent) → IsErrOf result (fault.Spent spent) → ⊥ }
     ensures cause { HasStoreCause (H.state host.old) (H.state host.new) result }
 {
-    let table = read_all(alloc, host, numbers)?;
+    let table = settle_all(alloc, host, numbers)?;
     store_of(alloc, table, number_behind(numbers), settings)
 }
 
@@ -129,7 +134,6 @@ fn open<H: Host>(
     ensures cause { HasStoreCause (H.state host.old) (H.state host.new) result }
 {
     let numbers = numbers_of(alloc, names)?;
-    settle(host, &numbers)?;
     read_store(alloc, host, &numbers, settings)
 }
 

@@ -47,8 +47,8 @@ impl<F: Fn(&Key) -> bool> Keyed for SoftIndex<F> {
 impl<F: Fn(&Key) -> bool + Drop> SoftIndex<F> {
     /// Opens the store of a directory, and gives its mark. The rule says which keys may be forgotten.
     ///
-    /// The data files, and the names of all files, are synced and then read; a damaged one ends it, and the fault names
-    /// the first damage. Files of other kinds and of other stores are passed over. Only the main store is there yet.
+    /// Each data file is synced and then read, in the order of their numbers, and then the names of all files are synced;
+    /// a damaged one ends it, and the fault names the first damage. Files of other kinds and of other stores are passed over. Only the main store is there yet.
     pub fn start<H: Host>(
         alloc: Global,
         host: &mut H,

@@ -20,11 +20,11 @@ loop-one-preserved g c =
       name = c.next.ensures.named ∙ before.name;
       faults = c.in_ok-one.ensures.cause.ok ∙ before.faults;
       says = c.next.ensures.cause.says ∙ before.says;
-      stands = λ told. Stands-trans a b d (before.stands told) (c.next.ensures.stands told);
+      stands = λ told. Stands-trans a b d (before.stands told) (c.next.ensures.told told).stands;
       taking = λ told.
           let same = bytes_in b.files (scanned_name c.loop-one.scan) in
           let is : same ≡ bytes_in a.files name = ap (λ (n : FileName). bytes_in b.files n) before.name ∙ bytes-same a.files b.files name (before.stands told).files in
-          let given = subst (λ (o : Option Scanned). HasGiven c.loop-one.scan c.next.new.self same (Ok o)) c.in-Some.is (c.in_ok-one.ensures.told told) in
+          let given = subst (λ (o : Option Scanned). HasGiven c.loop-one.scan c.next.new.self same (Ok o)) c.in-Some.is (c.in_ok-one.ensures.told told).given in
           taking-more c.args.number (bytes_in a.files name) same c.args.scan.now c.loop-one.scan c.next.new.self c.args.table.now c.loop-one.table c.take_one.new.table c.in-Some.one is (before.taking told) given c.in_ok-take_one.ensures.stands;
     }
 
@@ -36,5 +36,5 @@ returns-clause-read g c told counted stands =
     let name = log_name c.args.number in
     let same = bytes_in b.files (scanned_name c.loop-one.scan) in
     let is : same ≡ bytes_in a.files name = ap (λ (n : FileName). bytes_in b.files n) before.name ∙ bytes-same a.files b.files name (before.stands told).files in
-    let given = subst (λ (o : Option Scanned). HasGiven c.loop-one.scan c.next.new.self same (Ok o)) c.in_default.is (c.in_ok-one.ensures.told told) in
+    let given = subst (λ (o : Option Scanned). HasGiven c.loop-one.scan c.next.new.self same (Ok o)) c.in_default.is (c.in_ok-one.ensures.told told).given in
     taking-all c.args.number (bytes_in a.files name) same c.args.scan.now c.loop-one.scan c.next.new.self c.args.table.now c.loop-one.table is (before.taking told) given counted stands
