@@ -4,14 +4,15 @@ ghost use Rattle.std.specs.IoError.{error_kind};
 ghost use Rattle.cache_model.specs.Files.{IsFileName};
 ghost use Rattle.cache_disk.specs.Calls.{HasCause};
 
-use crate::handles::Handles;
+use crate::handles::{Handles, MOST_TRIES, again};
 use cache_disk::{Host, HostFault};
 use cache_model::FileName;
 use cache_script::file_name_of;
-use std::alloc::Global;
+use std::alloc::{AllocError, Global};
 use std::fs::{File, Files};
 use std::io::ErrorKind;
 use std::os::unix::fs::FileExt;
+use std::path::Path;
 use std::{fs, io};
 
 // The greatest offset that the platform takes.
@@ -52,6 +53,27 @@ fn listed<R: Files + AllocGlobal + Clone + Drop>(
     Ok(names)
 }
 
+// The same, and again where a signal came between, or too many files were open.
+fn listed_again<R: Files + AllocGlobal + Clone + Drop>(
+    rt: &R,
+    handles: &mut Handles,
+) -> io::Result<Vec<FileName>>
+    ensures { IfOk result (λ names. All IsFileName names.items) }
+{
+    for _ in 1..MOST_TRIES {
+        match listed(rt, handles.directory()) {
+            Err(error) if handles.may_try_again(&error) => {}
+            answer => return answer,
+        }
+    }
+    listed(rt, handles.directory())
+}
+
+// A file that is made.
+fn made<R: Files<File = File>>(rt: &R, handles: &mut Handles, path: Path<'_>) -> io::Result<File> {
+    handles.with_room(&|| File::create_new(rt, path))
+}
+
 // Reads once, and again where a signal came between.
 fn read_some(file: &File, at: u64, buf: &mut [u8]) -> Result<usize, HostFault>
     ensures { IfOk result (λ n. n ≤ length buf.old) }
@@ -59,7 +81,7 @@ fn read_some(file: &File, at: u64, buf: &mut [u8]) -> Result<usize, HostFault>
     if at > MOST_OFFSET {
         return Ok(0);
     }
-    for _ in 0..u64::MAX {
+    for _ in 0..MOST_TRIES {
         match file.read_at(buf, at) {
             Ok(n) => return Ok(n),
             Err(error) if error.kind() == ErrorKind::Interrupted => {}
@@ -72,7 +94,9 @@ fn read_some(file: &File, at: u64, buf: &mut [u8]) -> Result<usize, HostFault>
 /// A directory of the operating system as a host, with the standard output.
 ///
 /// The directory isn't made: where it isn't there, the first call that looks into it fails. Its files are opened at
-/// their first use and kept open. What stands in them isn't told to any contract: other programs may write them.
+/// their first use, and those that were used last are kept open. A call that a signal interrupts is made again, and so
+/// is one that finds too many files open, once some are closed. What stands in the files isn't told to any contract:
+/// other programs may write them.
 #[derive(Drop)]
 pub struct FolderHost<R> {
     rt: R,
@@ -81,15 +105,15 @@ pub struct FolderHost<R> {
     say_faults: u64,
 }
 
-impl<R> FolderHost<R> {
-    /// The host of this directory. It takes no memory and looks at nothing yet.
-    pub fn new(rt: R, alloc: Global, directory: String) -> FolderHost<R> {
-        FolderHost {
+impl<R: Drop> FolderHost<R> {
+    /// The host of this directory. It looks at nothing yet.
+    pub fn new(rt: R, alloc: Global, directory: String) -> Result<FolderHost<R>, AllocError> {
+        Ok(FolderHost {
             rt,
-            handles: Handles::new(alloc, directory),
+            handles: Handles::new(alloc, directory)?,
             disk_faults: 0,
             say_faults: 0,
-        }
+        })
     }
 
     // Counts a fault of the disk, where this is one.
@@ -125,7 +149,7 @@ impl<R: Files<File = File> + AllocGlobal + Print + Clone + Drop> Host for Folder
     ghost reads_now = { λ _ _. tt };
 
     fn names(&mut self) -> Result<Vec<FileName>, HostFault> {
-        let outcome = match listed(&self.rt, self.handles.directory()) {
+        let outcome = match listed_again(&self.rt, &mut self.handles) {
             Ok(names) => Ok(names),
             Err(error) => Err(fault_of(&error)),
         };
@@ -152,7 +176,7 @@ impl<R: Files<File = File> + AllocGlobal + Print + Clone + Drop> Host for Folder
 
     fn create(&mut self, name: FileName) -> Result<(), HostFault> {
         let outcome = match self.handles.path_of(name) {
-            Ok(path) => match File::create_new(&self.rt, path) {
+            Ok(path) => match made(&self.rt, &mut self.handles, path.as_path()) {
                 Ok(file) => {
                     self.handles.keep(name, file);
                     Ok(())
@@ -184,7 +208,7 @@ impl<R: Files<File = File> + AllocGlobal + Print + Clone + Drop> Host for Folder
         let outcome = match self.handles.path_of(name) {
             Ok(path) => {
                 self.handles.close(name);
-                done(fs::remove_file(&self.rt, path))
+                done(again(&|| fs::remove_file(&self.rt, path.as_path())))
             }
             Err(_) => Err(HostFault::Memory),
         };

@@ -42,7 +42,9 @@ fn serve_args(rt: HostRuntime, mut args: env::Args) -> Status {
     };
     let mut source = StdinSource::new(&rt);
     let alloc = rt.alloc();
-    let mut host = FolderHost::new(rt, alloc, directory);
+    let Ok(mut host) = FolderHost::new(rt, alloc, directory) else {
+        return Status::NoMemory;
+    };
     serve::serve(alloc, &words, &mut host, &mut source)
 }
 

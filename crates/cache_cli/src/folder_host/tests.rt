@@ -1,5 +1,8 @@
+ghost use Rattle.cache_model.specs.Files.{IsFileName};
+
 use super::*;
 use cache_model::FileKind;
+use std::cell::Cell;
 use std::path::PathBuf;
 use std::process::Abort;
 use std::test::Fail;
@@ -54,7 +57,7 @@ type Folder = FolderHost<HostRuntime>;
 
 fn host_of(rt: &HostRuntime, folder: &PathBuf) -> io::Result<Folder> {
     let directory = String::from_str(rt.alloc(), folder.as_str())?;
-    Ok(FolderHost::new(rt.clone()?, rt.alloc(), directory))
+    Ok(FolderHost::new(rt.clone()?, rt.alloc(), directory)?)
 }
 
 fn put_stray_files(rt: &HostRuntime, folder: &PathBuf) -> io::Result<()> {
@@ -114,28 +117,59 @@ fn counts_faults(rt: &impl Abort, host: &mut Folder) {
     assert_eq!(rt; (host.disk_faults, host.say_faults), (5, 0));
 }
 
-// More files than are kept open, each with its own byte.
+// One of many files, whose number is one above this.
+fn other_log(number: u8) -> FileName
+    ensures { IsFileName result }
+{
+    FileName {
+        kind: FileKind::Log,
+        store: 2,
+        id: u32::from(number) + 1,
+    }
+}
+
+// Looks at a file that has one byte, which tells it from others.
+fn reads_own(rt: &impl Abort, host: &mut Folder, id: u8) {
+    let mut buf = [0u8];
+    assert_eq!(rt; host.read(other_log(id), 0, &mut buf), Ok(1), "file {id}");
+    assert_eq!(rt; buf, [id]);
+}
+
+// More files than are kept open, each with its own byte. The first one is used again and again.
 fn opens_many(rt: &impl Abort, host: &mut Folder) {
     for id in 101..=255u8 {
-        let name = FileName {
-            kind: FileKind::Log,
-            store: 2,
-            id: u32::from(id),
-        };
-        assert_eq!(rt; host.create(name), Ok(()));
-        assert_eq!(rt; host.write(name, 0, &[id]), Ok(()));
+        assert_eq!(rt; host.create(other_log(id)), Ok(()));
+        assert_eq!(rt; host.write(other_log(id), 0, &[id]), Ok(()));
+        reads_own(rt, host, 101);
     }
-    for id in 101..=255u8 {
-        let name = FileName {
-            kind: FileKind::Log,
-            store: 2,
-            id: u32::from(id),
-        };
-        let mut buf = [0u8];
-        assert_eq!(rt; host.read(name, 0, &mut buf), Ok(1));
-        assert_eq!(rt; buf, [id]);
+    for id in 102..=255u8 {
+        reads_own(rt, host, id);
+        reads_own(rt, host, 101);
     }
     assert_eq!(rt; host.names().map(|names| names.len()), Ok(156));
+}
+
+// How many files the process has open, that of the count itself among them.
+fn open_files(rt: &HostRuntime) -> io::Result<usize> {
+    let mut count = 0usize;
+    for entry in fs::read_dir(rt, "/proc/self/fd")? {
+        entry?;
+        count = count.saturating_add(1);
+    }
+    Ok(count)
+}
+
+// Takes a file away behind the host's back: what is open still shows its byte, and what isn't is gone.
+fn shows_when_gone(
+    rt: &HostRuntime,
+    host: &mut Folder,
+    folder: &PathBuf,
+    id: u8,
+) -> io::Result<bool> {
+    let name = format!(in rt.alloc(); "s2-{:010}.log", u32::from(id) + 1)?;
+    fs::remove_file(rt, folder.join(rt.alloc(), name)?)?;
+    let mut buf = [0u8];
+    Ok(host.read(other_log(id), 0, &mut buf) == Ok(1))
 }
 
 #[test]
@@ -149,11 +183,82 @@ fn does_what_the_disk_does(rt: HostRuntime) -> Result<(), Fail> {
     reads(&rt, &mut host);
     reads(&rt, &mut other);
     counts_faults(&rt, &mut host);
+    let before = open_files(&rt)?;
     opens_many(&rt, &mut host);
+    assert!(rt; open_files(&rt)?.saturating_sub(before) <= 64);
+    // The last 63 files are kept and the one that was used all the time, which is used here before each of them.
+    for (id, is_kept) in [(192, false), (193, true), (255, true), (101, true)] {
+        assert_eq!(rt;
+            shows_when_gone(&rt, &mut host, &folder, id)?,
+            is_kept,
+            "file {id}"
+        );
+    }
     fs::remove_dir_all(&rt, folder.as_path())?;
     // Now the directory isn't there.
     assert_eq!(rt; other.names().err(), Some(HostFault::Failed));
     assert_eq!(rt; other.create(TREE).err(), Some(HostFault::Failed));
     assert_eq!(rt; other.disk_faults, 2);
+    Ok(())
+}
+
+// A call that a signal interrupts so many times.
+fn interrupted(left: &Cell<u32>) -> io::Result<u32> {
+    match left.get() {
+        0 => Ok(7),
+        some => {
+            left.set(some - 1);
+            Err(io::Error::from(ErrorKind::Interrupted))
+        }
+    }
+}
+
+#[test]
+fn calls_are_made_again(rt: HostRuntime) -> Result<(), Fail> {
+    for (interrupts, want) in [
+        (0, Ok(7)),
+        (1, Ok(7)),
+        (999, Ok(7)),
+        (1_000, Err(ErrorKind::Interrupted)),
+        (1_000_000, Err(ErrorKind::Interrupted)),
+    ] {
+        let left = Cell::new(interrupts);
+        let answer = again(&|| interrupted(&left)).map_err(|error| error.kind());
+        assert_eq!(rt; answer, want, "{interrupts} interrupts");
+        let mut handles = Handles::new(rt.alloc(), String::new(rt.alloc()))?;
+        left.set(interrupts);
+        let answer = handles
+            .with_room(&|| interrupted(&left))
+            .map_err(|error| error.kind());
+        assert_eq!(rt; answer, want, "{interrupts} interrupts where there is room");
+    }
+    Ok(())
+}
+
+// A call that finds too many files open so many times.
+fn crowded(left: &Cell<u32>) -> io::Result<u32> {
+    match left.get() {
+        0 => Ok(7),
+        some => {
+            left.set(some - 1);
+            Err(io::Error::from_raw_os_error(24))
+        }
+    }
+}
+
+#[test]
+fn files_are_closed_for_others(rt: HostRuntime) -> Result<(), Fail> {
+    // With as many files kept, how often a call may find too many open: each time half of those kept are closed.
+    for (kept, most) in [(0, 0), (1, 1), (2, 2), (3, 2), (64, 7)] {
+        for (refused, is_made) in [(most, true), (most + 1, false)] {
+            let mut handles = Handles::new(rt.alloc(), String::new(rt.alloc()))?;
+            for id in 0..kept {
+                handles.keep(other_log(id), File::open(&rt, "/")?);
+            }
+            let left = Cell::new(refused);
+            let answer = handles.with_room(&|| crowded(&left));
+            assert_eq!(rt; answer.is_ok(), is_made, "{kept} kept, {refused} refusals");
+        }
+    }
     Ok(())
 }
