@@ -105,10 +105,10 @@ def spelled_put(sequence, key, value, until=NEVER):
     return numbers + lengths + key + value
 
 
-def spelled_file(puts, moment):
-    """A data file with one open frame for each put, and a closed gate at its end."""
+def spelled_file(puts, moment, first=1):
+    """A data file with one open frame for each put, and a closed gate at its end. The puts are numbered from `first`."""
     end = b"\x00" + moment.to_bytes(8, "big")
-    frames = [spelled_put(at, *put) + end for at, put in enumerate(puts, start=1)]
+    frames = [spelled_put(at, *put) + end for at, put in enumerate(puts, start=first)]
     return b"\x01\x01" + b"\x01".join(frames) + b"\x00"
 
 
