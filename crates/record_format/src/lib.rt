@@ -1,6 +1,7 @@
 //! The spelling of one item: writing it, and reading what stands at an offset of some bytes.
 #![tactic(auto)]
 
+mod changing;
 mod items;
 mod laws;
 mod owning;
@@ -9,6 +10,7 @@ mod reading;
 mod tests;
 mod writing;
 
+pub use changing::encode_change;
 pub use items::{Item, OwnItem, Span, Step};
 pub use laws::{spelling_is_read_back, spelling_is_unambiguous, whole_is_spelled};
 pub use owning::own;

@@ -50,7 +50,12 @@ fn append(item: &OwnItem, out: &mut Vec<u8>) -> Result<(), AllocError>
 }
 
 // Appends three parts, with room for all of them taken first.
-fn append_parts(out: &mut Vec<u8>, head: &[u8], key: &[u8], value: &[u8]) -> Result<(), AllocError>
+pub(crate) fn append_parts(
+    out: &mut Vec<u8>,
+    head: &[u8],
+    key: &[u8],
+    value: &[u8],
+) -> Result<(), AllocError>
     requires { length head.now + length key.now + length value.now < 2 ^ 32 }
     ensures appended { OnOk result (out.new.items ≡ out.old.items ++ head.now ++ key.now ++ value.now) }
     ensures kept { take (vec_len out.old) out.new.items ≡ out.old.items }
@@ -70,7 +75,7 @@ fn number_of(until: Until) -> u64
     }
 }
 
-fn put_head(seq: u64, until: Until, key_length: u16, value_length: u32) -> [u8; 23]
+pub(crate) fn put_head(seq: u64, until: Until, key_length: u16, value_length: u32) -> [u8; 23]
     ensures { result ≡ (1 ∷ []) ++ to_be_bytes w64 seq ++ to_be_bytes w64 (until_number until) ++ to_be_bytes w16 key_length ++ to_be_bytes w32 value_length }
 {
     let mut head = [1; 23];
@@ -81,7 +86,7 @@ fn put_head(seq: u64, until: Until, key_length: u16, value_length: u32) -> [u8; 
     head
 }
 
-fn removal_head(seq: u64, key_length: u16) -> [u8; 11]
+pub(crate) fn removal_head(seq: u64, key_length: u16) -> [u8; 11]
     ensures { result ≡ (2 ∷ []) ++ to_be_bytes w64 seq ++ to_be_bytes w16 key_length }
 {
     let mut head = [2; 11];
