@@ -1,0 +1,168 @@
+-- What a log holds goes along with its calls.
+use Rattle.std.proofs.Common.{◌≡◌, inr, ℕ, ◌+◌, ◌≤◌, ◌<◌, true, false, Bool, List, [], ◌∷◌, ◌++◌, Option, Some, None, IsSome, is_some, refl, sym, ◌∙◌, ap, subst, arith}
+use Rattle.cache_model.specs.declared.files.FileName.{FileName}
+use Rattle.cache_model.specs.Files.{Image, file_in, is_name}
+use Rattle.cache_model.specs.Items.{Item}
+use Rattle.cache_model.specs.DataFiles.{Frame, file_spelling}
+use Rattle.cache_disk.specs.State.{HostState, Moves, SameBut}
+use Rattle.cache_disk.specs.Calls.{OnFile, AllLeft}
+use Rattle.cache_disk.proofs.Runs.{left_still}
+use Rattle.data_file.specs.declared.appender.Appender.{Appender}
+use Rattle.data_file.specs.Appending.{name_of, StandsFor}
+use Rattle.data_file.proofs.Bytes.{written-none}
+use Rattle.append_log.specs.declared.log_files.LogFiles.{LogFiles}
+use Rattle.cache_model.specs.declared.replies.Turned.{Turned}
+use Rattle.cache_model.specs.declared.replies.Turned.TheVariants.{Done, Idle}
+use Rattle.append_log.specs.Calls.{IsTurned}
+use Rattle.append_log.specs.Current.{data_name, file_of, next_file, next_file_of, tail_by, makes_file, mark_of, is_unsealed, marked, IsFileOf, IsLogStanding}
+use Rattle.append_log.specs.Standing.{Closed, Held, Stands, IsClosedIn, IsGoneOr, AreClosedIn, AreBelow, RiseFrom, sealed_held, waits}
+use Rattle.append_log.proofs.Steps.{other_name, file_standing}
+
+pub waits-push : (records : List Item) (one : Item) → waits (records ++ one ∷ []) ≡ true
+waits-push [] one = refl
+waits-push (item ∷ items) one = refl
+
+pub none_waits : (records : List Item) → waits records ≡ false → records ≡ []
+none_waits [] is = refl
+none_waits (item ∷ items) is = cc
+
+-- numbers
+
+made_next : (log : Option Appender) (file : ℕ) (b : HostState) (frames : List Frame) (records : List Item) → IsLogStanding log b frames records → next_file log file ≡ file + 1
+made_next None file b frames records is = absurd is
+made_next (Some log) file b frames records is = refl
+
+pub next_most : (log : Option Appender) (file : ℕ) → next_file log file ≤ file + 1
+next_most None file = omega arith
+next_most (Some log) file = omega arith
+
+rise_more : (least number : ℕ) (frames : List Frame) (files : List Closed) → least < number → RiseFrom least files → AreBelow files number → RiseFrom least (files ++ (record { number = number; frames = frames }) ∷ [])
+rise_more least number frames [] first rise below = (first, tt)
+rise_more least number frames (file ∷ files) first rise below = (rise.0, rise_more file.number number frames files below.0 rise.1 below.1)
+
+below_more : (number : ℕ) (frames : List Frame) (files : List Closed) → AreBelow files number → AreBelow (files ++ (record { number = number; frames = frames }) ∷ []) (number + 1)
+below_more number frames [] below = (omega arith, tt)
+below_more number frames (file ∷ files) below = (omega (arith, below.0), below_more number frames files below.1)
+
+closed_more : (store : ℕ) (state : HostState) (one : Closed) (files : List Closed) → AreClosedIn store state files → IsClosedIn store state one → AreClosedIn store state (files ++ one ∷ [])
+closed_more store state one [] all is = (is, tt)
+closed_more store state one (file ∷ files) all is = (all.0, closed_more store state one files all.1 is)
+
+-- closed files
+
+-- A closed file is there or gone as before, where each step leaves it as it was.
+closed_on : (store : ℕ) (a b : HostState) (step : Image → Image → Type 0) (one : Closed)
+    → file_in b.files (data_name store one.number) ≡ file_in a.files (data_name store one.number)
+    → Moves a b step
+    → ((d m : Image) → step d m → file_in m (data_name store one.number) ≡ file_in d (data_name store one.number))
+    → IsClosedIn store a one → IsClosedIn store b one
+closed_on store a b step one same moves keeps is = record {
+  in_grammar = is.in_grammar;
+  reads = subst (λ (found : Option (List ℕ)). IsGoneOr one.frames found) (sym same) is.reads;
+  images = left_still a b step (λ image. IsGoneOr one.frames (file_in image (data_name store one.number))) moves is.images
+      (λ d m was took. subst (λ (found : Option (List ℕ)). IsGoneOr one.frames found) (sym (keeps d m took)) was);
+  stays = λ there.
+      left_still a b step (λ image. file_in image (data_name store one.number) ≡ Some (file_spelling one.frames)) moves
+      (is.stays (subst (λ (found : Option (List ℕ)). IsSome found) same there))
+      (λ d m was took. keeps d m took ∙ was);
+}
+
+all_closed_on : (store file : ℕ) (a b : HostState) (P : List ℕ → Type 0) → SameBut (data_name store file) a.files b.files → Moves a b (OnFile (data_name store file) P)
+    → (files : List Closed) → AreBelow files file → AreClosedIn store a files → AreClosedIn store b files
+all_closed_on store file a b P same moves [] below all = tt
+all_closed_on store file a b P same moves (one ∷ files) below all =
+    let apart = other_name store file one.number (λ is. omega (arith, is, below.0)) in (
+      closed_on store a b (OnFile (data_name store file) P) one (same (data_name store one.number) apart) moves (λ d m step. step.others (data_name store one.number) apart) all.0,
+      all_closed_on store file a b P same moves files below.1 all.1,
+    )
+
+-- calls
+
+-- a call on the current file, which is made then
+pub holds_on : (F : LogFiles) (log : Option Appender) (unsealed spoilt : Bool) (next mark : ℕ) (a b : HostState) (held : Held) (frames : List Frame) (records : List Item) (P : List ℕ → Type 0)
+    → Stands F a held
+    → Moves a b (OnFile (file_of F) P)
+    → SameBut (file_of F) a.files b.files
+    → IsLogStanding log b frames records
+    → unsealed ≡ waits records
+    → (unsealed ≡ false → AllLeft b (λ image. file_in image (file_of F) ≡ file_in b.files (file_of F)))
+    → Stands (record F { log = log; unsealed = unsealed; spoilt = spoilt; next = next; mark = mark }) b (record { closed = held.closed; frames = frames; records = records })
+holds_on F log unsealed spoilt next mark a b held frames records P stands moves same now pending settled = record {
+  current = file_standing F.store log F.file b frames records now;
+  closed = all_closed_on F.store F.file a b P same moves held.closed stands.below stands.closed;
+  below = stands.below;
+  rising = stands.rising;
+  beyond = λ n above. same (data_name F.store n) (apart n above) ∙ stands.beyond n (behind n above);
+  absent = λ n above.
+      left_still a b (OnFile (file_of F) P) (λ image. file_in image (data_name F.store n) ≡ None) moves
+      (stands.absent n (behind n above)) (λ d m none step. step.others (data_name F.store n) (apart n above) ∙ none);
+  pending = pending;
+  rests = settled;
+}
+  where
+    apart : (n : ℕ) → next_file log F.file ≤ n → is_name (file_of F) (data_name F.store n) ≡ false
+    apart n above = other_name F.store F.file n (λ is. omega (arith, is, above, made_next log F.file b frames records now))
+
+    behind : (n : ℕ) → next_file log F.file ≤ n → next_file_of F ≤ n
+    behind n above = omega (arith, above, made_next log F.file b frames records now, next_most F.log F.file)
+
+-- where nothing waits, what is held is sealed already
+pub holds_sealed : (F : LogFiles) (a : HostState) (moment : ℕ) (held : Held) → F.unsealed ≡ false → Stands F a held → Stands F a (sealed_held F.unsealed moment held)
+holds_sealed F a moment held is stands =
+    subst (λ (u : Bool). Stands F a (sealed_held u moment held)) (sym is)
+    (subst (λ (l : List Item). Stands F a (record { closed = held.closed; frames = held.frames; records = l })) (none_waits held.records (sym stands.pending ∙ is)) stands)
+
+-- the current file is closed, and the next one isn't made yet
+pub holds_closed : (F : LogFiles) (log : Appender) (b : HostState) (closed : List Closed) (frames : List Frame)
+    → F.log ≡ Some log → name_of log ≡ file_of F → F.unsealed ≡ false → 1 ≤ F.file
+    → Stands F b (record { closed = closed; frames = frames; records = [] })
+    → Stands (record F { log = None; file = F.file + 1 }) b (record { closed = closed ++ (record { number = F.file; frames = frames }) ∷ []; frames = []; records = [] })
+holds_closed F log b closed frames made named sealed some stands = record {
+  current = (refl, refl, absent (F.file + 1) (omega arith));
+  closed = closed_more F.store b (record { number = F.file; frames = frames }) closed stands.closed (record {
+    in_grammar = now.in_grammar;
+    reads = inr there;
+    images = λ image left. inr (stands.rests sealed image left ∙ there);
+    stays = λ is image left. stands.rests sealed image left ∙ there;
+  });
+  below = below_more F.file frames closed stands.below;
+  rising = rise_more 0 F.file frames closed (omega (arith, some)) stands.rising stands.below;
+  beyond = λ n above. stands.beyond n (subst (λ (l : Option Appender). next_file l F.file ≤ n) (sym made) above);
+  absent = absent;
+  pending = sealed;
+  rests = λ is image left. absent (F.file + 1) (omega arith) image left ∙ sym (stands.beyond (F.file + 1) (omega (arith, next_most F.log F.file)));
+}
+  where
+    absent : (n : ℕ) → F.file + 1 ≤ n → AllLeft b (λ image. file_in image (data_name F.store n) ≡ None)
+    absent n above = stands.absent n (subst (λ (l : Option Appender). next_file l F.file ≤ n) (sym made) above)
+
+    now : StandsFor log b frames []
+    now = subst (λ (l : Option Appender). IsFileOf F.store l F.file b frames []) made stands.current
+
+    there : file_in b.files (file_of F) ≡ Some (file_spelling frames)
+    there = ap (λ (name : FileName). file_in b.files name) (sym named) ∙ now.reads ∙ ap (λ (l : List ℕ). Some l) (written-none frames)
+
+pub log_of : (log : Option Appender) → is_some log ≡ true → (made : Appender) × (log ≡ Some made)
+log_of None there = cc
+log_of (Some made) there = (made, refl)
+
+-- a rotation of a log that has a current file isn't idle
+pub turned_done : (turned : Turned) (moment : ℕ) (S T : LogFiles) → is_some S.log ≡ true → IsTurned moment turned S T → turned ≡ Done
+turned_done Done moment S T there is = refl
+turned_done Idle moment S T there is = absurd (no_tail S.log S.file S.unsealed there is.0)
+  where
+    no_tail : (log : Option Appender) (file : ℕ) (unsealed : Bool) → is_some log ≡ true → tail_by log file unsealed ≡ None → ⊥
+    no_tail None file unsealed there none = cc
+    no_tail (Some log) file unsealed there none = cc
+
+pub turned_mark : (turned : Turned) (moment : ℕ) (S T : LogFiles) → turned ≡ Done → IsTurned moment turned S T → mark_of T ≡ marked (is_unsealed S) (mark_of S) moment
+turned_mark Done moment S T done is = is.2
+turned_mark Idle moment S T done is = cc
+
+pub makes_over : (log : Option Appender) → is_some log ≡ true → makes_file log true ≡ true
+makes_over None there = cc
+makes_over (Some log) there = refl
+
+pub some_next : (log : Option Appender) (file : ℕ) → is_some log ≡ true → next_file log file ≡ file + 1
+some_next None file there = cc
+some_next (Some log) file there = refl

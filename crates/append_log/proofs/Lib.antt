@@ -1,0 +1,5 @@
+pub mod Steps
+pub mod Fetched
+pub mod Holding
+pub mod Places
+pub mod Reading

@@ -1,0 +1,4 @@
+pub mod Current
+pub mod Standing
+pub mod Calls
+pub mod Fetching
