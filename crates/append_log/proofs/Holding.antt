@@ -1,22 +1,26 @@
 -- What a log holds goes along with its calls.
 use Rattle.std.proofs.Common.{◌≡◌, inr, ℕ, ◌+◌, ◌≤◌, ◌<◌, true, false, Bool, List, [], ◌∷◌, ◌++◌, Option, Some, None, IsSome, is_some, refl, sym, ◌∙◌, ap, subst, arith}
 use Rattle.cache_model.specs.declared.files.FileName.{FileName}
+use Rattle.std.specs.Prelude.{Result, Ok, Err, IfOk, OnOk, OnErr, IsErrOf}
+use Rattle.cache_model.specs.declared.faults.StoreFault.{StoreFault}
+use Rattle.cache_model.specs.declared.faults.StoreFault.TheVariants as fault
 use Rattle.cache_model.specs.Files.{Image, file_in, is_name}
 use Rattle.cache_model.specs.Items.{Item}
 use Rattle.cache_model.specs.DataFiles.{Frame, file_spelling}
-use Rattle.cache_disk.specs.State.{HostState, Moves, SameBut}
+use Rattle.cache_disk.specs.State.{HostState, Moves, SameBut, SameFiles}
+use Rattle.cache_disk.specs.State as disk
 use Rattle.cache_disk.specs.Calls.{OnFile, AllLeft}
-use Rattle.cache_disk.proofs.Runs.{left_still}
+use Rattle.cache_disk.proofs.Runs.{Stands-left, Stands-moves, left_still}
 use Rattle.data_file.specs.declared.appender.Appender.{Appender}
 use Rattle.data_file.specs.Appending.{name_of, StandsFor}
 use Rattle.data_file.proofs.Bytes.{written-none}
 use Rattle.append_log.specs.declared.log_files.LogFiles.{LogFiles}
 use Rattle.cache_model.specs.declared.replies.Turned.{Turned}
 use Rattle.cache_model.specs.declared.replies.Turned.TheVariants.{Done, Idle}
-use Rattle.append_log.specs.Calls.{IsTurned}
-use Rattle.append_log.specs.Current.{data_name, file_of, next_file, next_file_of, tail_by, makes_file, mark_of, is_unsealed, marked, IsFileOf, IsLogStanding}
-use Rattle.append_log.specs.Standing.{Closed, Held, Stands, IsClosedIn, IsGoneOr, AreClosedIn, AreBelow, RiseFrom, sealed_held, waits}
-use Rattle.append_log.proofs.Steps.{other_name, file_standing}
+use Rattle.append_log.specs.Calls.{IsNew, IsTurned}
+use Rattle.append_log.specs.Current.{IsLogOf, data_name, file_of, next_file, next_file_of, tail_by, makes_file, mark_of, is_unsealed, marked, IsFileOf, IsLogStanding}
+use Rattle.append_log.specs.Standing.{IsStanding, nothing_held, Closed, Held, Stands, IsClosedIn, IsGoneOr, AreClosedIn, AreBelow, RiseFrom, sealed_held, waits}
+use Rattle.append_log.proofs.Steps.{file_still, other_name, file_standing}
 
 pub waits-push : (records : List Item) (one : Item) → waits (records ++ one ∷ []) ≡ true
 waits-push [] one = refl
@@ -166,3 +170,76 @@ makes_over (Some log) there = refl
 pub some_next : (log : Option Appender) (file : ℕ) → is_some log ≡ true → next_file log file ≡ file + 1
 some_next None file there = cc
 some_next (Some log) file there = refl
+
+-- a call that changed nothing leaves what is held
+same_closed : (store : ℕ) (a b : HostState) → disk.Stands a b → (files : List Closed) → AreClosedIn store a files → AreClosedIn store b files
+same_closed store a b still [] all = tt
+same_closed store a b still (one ∷ files) all = (
+  closed_on store a b SameFiles one (still.files (data_name store one.number)) (Stands-moves a b SameFiles still) (λ d m same. same (data_name store one.number)) all.0,
+  same_closed store a b still files all.1,
+)
+
+pub holds_still : (F : LogFiles) (spoilt : Bool) (a b : HostState) (held : Held) → disk.Stands a b → Stands F a held → Stands (record F { spoilt = spoilt }) b held
+holds_still F spoilt a b held still stands = record {
+  current = file_still F.store F.log F.file a b held.frames held.records still stands.current;
+  closed = same_closed F.store a b still held.closed stands.closed;
+  below = stands.below;
+  rising = stands.rising;
+  beyond = λ n above. still.files (data_name F.store n) ∙ stands.beyond n above;
+  absent = λ n above. Stands-left a b (λ image. file_in image (data_name F.store n) ≡ None) still (stands.absent n above);
+  pending = stands.pending;
+  rests = λ is. Stands-left a b (λ image. file_in image (file_of F) ≡ file_in b.files (file_of F)) still (λ image left. stands.rests is image left ∙ sym (still.files (file_of F)));
+}
+
+-- a log that was just made holds nothing, where no file has its next number or a greater one
+pub holds_new : (store file seq size : ℕ) (F : LogFiles) (a : HostState) → IsNew store file seq size F
+    → ((n : ℕ) → file ≤ n → file_in a.files (data_name store n) ≡ None)
+    → ((n : ℕ) → file ≤ n → AllLeft a (λ image. file_in image (data_name store n) ≡ None))
+    → Stands F a nothing_held
+holds_new store file seq size F a new reads images = record {
+  current = subst (λ (l : Option Appender). IsFileOf F.store l F.file a [] []) (sym none) (refl, refl, absent F.file (omega (arith, least)));
+  closed = tt;
+  below = tt;
+  rising = tt;
+  beyond = beyond;
+  absent = absent;
+  pending = unsealed;
+  rests = λ is image left. absent F.file (omega (arith, least)) image left ∙ sym (beyond F.file (omega (arith, least)));
+}
+  where
+    no_log : (log : Option Appender) (number : ℕ) (unsealed : Bool) → tail_by log number unsealed ≡ None → log ≡ None
+    no_log None number unsealed is = refl
+    no_log (Some log) number unsealed is = cc
+
+    none : F.log ≡ None
+    none = no_log F.log F.file F.unsealed new.tail
+
+    unsealed : F.unsealed ≡ false
+    unsealed = subst (λ (l : Option Appender). IsLogOf F.store l F.file F.unsealed) none new.usable.log
+
+    least : next_file_of F ≡ F.file
+    least = ap (λ (l : Option Appender). next_file l F.file) none
+
+    beyond : (n : ℕ) → next_file_of F ≤ n → file_in a.files (data_name F.store n) ≡ None
+    beyond n above = subst (λ (s : ℕ). file_in a.files (data_name s n) ≡ None) (sym new.store_is) (reads n (omega (arith, above, new.next_file)))
+
+    absent : (n : ℕ) → next_file_of F ≤ n → AllLeft a (λ image. file_in image (data_name F.store n) ≡ None)
+    absent n above = subst (λ (s : ℕ). AllLeft a (λ image. file_in image (data_name s n) ≡ None)) (sym new.store_is) (images n (omega (arith, above, new.next_file)))
+
+-- what an answer says is held
+pub standing_by : {R : Type 0} (T : LogFiles) (b : HostState) (after : R → Held) (result : Result R StoreFault) → IfOk result (λ answer. Stands T b (after answer)) → OnOk result (IsStanding T b)
+standing_by T b after (Ok answer) ok = (after answer, ok)
+standing_by T b after (Err f) ok = tt
+
+pub standing_as : {R : Type 0} (T : LogFiles) (b : HostState) (after : Held) (result : Result R StoreFault) → OnOk result (Stands T b after) → OnOk result (IsStanding T b)
+standing_as T b after (Ok answer) ok = (after, ok)
+standing_as T b after (Err f) ok = tt
+
+-- a log that isn't spoilt after a call stands, as the answer says or as before
+pub stands_on : {R : Type 0} (F T : LogFiles) (a b : HostState) (held : Held) (result : Result R StoreFault) → Stands F a held
+    → OnOk result (IsStanding T b)
+    → OnErr result (T.spoilt ≡ false → disk.Stands a b)
+    → OnErr result (T.spoilt ≡ false → IsErrOf result fault.Memory × (T ≡ F))
+    → T.spoilt ≡ false → IsStanding T b
+stands_on F T a b held (Ok answer) stands ok still same sound = ok
+stands_on F T a b held (Err f) stands ok still same sound = (held, subst (λ (x : LogFiles). Stands x b held) (sym (same sound).1) (holds_still F F.spoilt a b held (still sound) stands))

@@ -93,6 +93,8 @@ pub record Seals {R : Type 0} (moment : ℕ) (held : Held) (after : R → Held) 
   pub settled : OnOk result (AllLeft b (λ image. file_in image (file_of old) ≡ file_in b.files (file_of old)))
   pub silent : Silent a b
   pub refused : OnErr result (is_spoilt_log new ≡ false → disk.Stands a b)
+  -- where nothing waits nothing is written
+  pub still : is_unsealed old ≡ false → disk.Stands a b
 
 -- both have the same files, this one aside, and the one behind it where this one is closed
 abbrev pub SameBeside : LogFiles → Bool → Image → Image → Type 0

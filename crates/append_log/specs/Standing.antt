@@ -111,3 +111,8 @@ HoldsAt held current number at item =
 -- the log wrote this record to this place
 abbrev pub Wrote : Held → ℕ → Place → Item → Type 0
 Wrote held current place item = IsRecord item × (place.length ≡ length (spelling item)) × HoldsAt held current place.file place.at item
+
+-- no image has a data file of a store
+pub record Starts (store : ℕ) (state : HostState) : Type 0 where
+  pub reads : (n : ℕ) → file_in state.files (data_name store n) ≡ None
+  pub images : (n : ℕ) → AllLeft state (λ image. file_in image (data_name store n) ≡ None)

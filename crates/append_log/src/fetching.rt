@@ -151,6 +151,7 @@ impl Log {
         requires name { IsFileName (data_name (store_of (files_of self.old)) place.file) }
         ensures leaves { files_of self.new ≡ with_spoilt (files_of self.old) (spoils_log result) }
         ensures unspent { (s : Spent) → IsErrOf result (fault.Spent s) → ⊥ }
+        ensures stands { IsTrue H.tells → (held : Held) → Stands (files_of self.old) (H.state host.old) held → Stands (files_of self.new) (H.state host.new) held }
         ensures told { IsTrue H.tells → Fetches (data_name (store_of (files_of self.old)) place.file) place (H.state host.old) (H.state host.new) result }
         ensures wrote { IsTrue H.tells → (held : Held) (item : Written) → Stands (files_of self.old) (H.state host.old) held → Wrote held (number_of (files_of self.old)) place item
             → IsSome (file_in (H.state host.old).files (data_name (store_of (files_of self.old)) place.file)) → Gives item result }

@@ -9,3 +9,6 @@ mod turning;
 mod writing;
 
 pub use log_calls::Log;
+
+#[cfg(test)]
+mod tests;

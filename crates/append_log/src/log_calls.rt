@@ -1,5 +1,5 @@
 // A log, and its calls.
-ghost use Rattle.std.specs.Prelude.{◌≡◌, ◌<◌, ◌≤◌, ◌^◌, length, IsTrue, IfOk, IfErr, OnOk, IsErrOf};
+ghost use Rattle.std.specs.Prelude.{◌≡◌, ◌<◌, ◌≤◌, ◌^◌, length, IsTrue, IfOk, IfErr, OnOk, IsErrOf, false};
 ghost use Rattle.cache_model.specs.declared.faults.StoreFault.TheVariants as fault;
 ghost use Rattle.cache_model.specs.declared.faults.Spent.{Spent};
 ghost use Rattle.cache_model.specs.declared.replies.Turned.{Turned};
@@ -84,6 +84,7 @@ impl Log {
         ensures put { IfOk result (λ place. IsPut change.now moment (files_of self.old) (files_of self.new) place) }
         ensures told { IsTrue H.tells → (held : Held) → Stands (files_of self.old) (H.state host.old) held
             → Puts change.now moment held (files_of self.old) (files_of self.new) (H.state host.old) (H.state host.new) result }
+        ensures stands { IsTrue H.tells → is_spoilt_log (files_of self.new) ≡ false → IsStanding (files_of self.new) (H.state host.new) }
         ensures spent { IsSpentBy (spent_by (files_of self.old) change.now) result }
         ensures cause { HasStoreCause (H.state host.old) (H.state host.new) result }
     {
@@ -124,6 +125,7 @@ impl Log {
         ensures sealed { OnOk result (IsSealed moment (files_of self.old) (files_of self.new)) }
         ensures told { IsTrue H.tells → (held : Held) → Stands (files_of self.old) (H.state host.old) held
             → Seals moment held (λ answer. sealed_held (is_unsealed (files_of self.old)) moment held) (files_of self.old) (files_of self.new) (H.state host.old) (H.state host.new) result }
+        ensures stands { IsTrue H.tells → is_spoilt_log (files_of self.new) ≡ false → IsStanding (files_of self.new) (H.state host.new) }
         ensures unspent { (s : Spent) → IsErrOf result (fault.Spent s) → ⊥ }
         ensures cause { HasStoreCause (H.state host.old) (H.state host.new) result }
     {
@@ -141,6 +143,7 @@ impl Log {
         ensures turned { IfOk result (λ turned. IsTurned moment turned (files_of self.old) (files_of self.new)) }
         ensures told { IsTrue H.tells → (held : Held) → Stands (files_of self.old) (H.state host.old) held
             → Seals moment held (λ turned. turned_held turned (is_unsealed (files_of self.old)) (number_of (files_of self.old)) moment held) (files_of self.old) (files_of self.new) (H.state host.old) (H.state host.new) result }
+        ensures stands { IsTrue H.tells → is_spoilt_log (files_of self.new) ≡ false → IsStanding (files_of self.new) (H.state host.new) }
         ensures unspent { (s : Spent) → IsErrOf result (fault.Spent s) → ⊥ }
         ensures cause { HasStoreCause (H.state host.old) (H.state host.new) result }
     {

@@ -25,4 +25,5 @@ returns-clause-told g c told held stands =
       settled = first.settled;
       silent = first.silent;
       refused = tt;
+      still = first.still;
     }

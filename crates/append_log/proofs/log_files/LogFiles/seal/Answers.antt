@@ -1,4 +1,4 @@
-use Rattle.std.proofs.Common.{◌≡◌, Bool, [], sym, subst, true}
+use Rattle.std.proofs.Common.{◌∙◌, false, ◌≡◌, Bool, [], sym, subst, true}
 use Rattle.cache_disk.specs.State.{Moves}
 use Rattle.cache_disk.specs.Calls.{OnFile}
 use Rattle.data_file.specs.Appending.{CountsOneOf, sealed}
@@ -27,4 +27,5 @@ returns-clause-told g c told held stands =
       settled = c.in_default.ensures.settled told;
       silent = c.seal_log.ensures.silent told;
       refused = tt;
+      still = λ is. let no : true ≡ false = sym unsealed ∙ is in cc;
     }
