@@ -7,6 +7,7 @@ pub mod Opening
 pub mod Run
 pub mod Saying
 pub mod Serving
+pub mod SettingsFile
 pub mod Standing
 pub mod Steps
 pub mod Talk

@@ -9,6 +9,7 @@ mod laws;
 mod run;
 mod saying;
 mod serve;
+mod settings_file;
 mod stdin_source;
 mod words;
 
