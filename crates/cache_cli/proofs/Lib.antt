@@ -5,6 +5,7 @@ mod Composing
 mod Contents
 mod Doing
 mod Ending
+mod Filling
 mod Lines
 mod Listing
 mod Logs

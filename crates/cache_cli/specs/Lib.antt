@@ -1,5 +1,6 @@
 pub mod Causes
 pub mod Composing
+pub mod DirectorySettings
 pub mod Ends
 pub mod Fitting
 pub mod Foreign

@@ -2,6 +2,7 @@
 //! replies on its standard output, and ends with the status of the run.
 #![tactic(auto)]
 
+mod directory_settings;
 mod folder_host;
 mod foreign;
 mod handles;

@@ -15,7 +15,7 @@ use thiserror::Error;
 use toml::{Table, Value};
 
 /// The greatest length of a settings file, in bytes.
-const FILE_LIMIT: usize = 4096;
+pub const FILE_LIMIT: usize = 4096;
 
 /// The greatest length of the setting `publish`, in bytes.
 const PUBLISH_LIMIT: usize = 1024;
