@@ -223,6 +223,10 @@ fn converse<H: Host, I: Source, S: Store<H>>(
 #[cfg(test)]
 mod crashes;
 #[cfg(test)]
+mod cuts;
+#[cfg(test)]
 mod plain_reader;
 #[cfg(test)]
 mod tests;
+#[cfg(test)]
+mod with_settings;

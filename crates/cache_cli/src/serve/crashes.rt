@@ -65,14 +65,14 @@ const MANY: Scenario = Scenario {
 
 // The plain map with what is said of the lines on it.
 #[derive(Debug, Drop)]
-struct PlainRun {
+pub(super) struct PlainRun {
     map: PlainCache,
     said: Vec<u8>,
 }
 
 impl PlainRun {
     // Over an empty map.
-    fn begin(alloc: Global) -> PlainRun {
+    pub(super) fn begin(alloc: Global) -> PlainRun {
         PlainRun {
             map: PlainCache::new(alloc, FIRST_MOMENT),
             said: Vec::new(alloc),
@@ -80,9 +80,24 @@ impl PlainRun {
     }
 
     // Answers a line.
-    fn answer(&mut self, rt: &impl Abort, alloc: Global, line: &str) -> Result<(), Fail> {
-        let Ok(command) = read_line(alloc, line.as_bytes()) else {
-            panic!(rt; "no command: {line}");
+    pub(super) fn answer(
+        &mut self,
+        rt: &impl Abort,
+        alloc: Global,
+        line: &str,
+    ) -> Result<(), Fail> {
+        self.answer_bytes(rt, alloc, line.as_bytes())
+    }
+
+    // Answers a line that is given as bytes.
+    pub(super) fn answer_bytes(
+        &mut self,
+        rt: &impl Abort,
+        alloc: Global,
+        line: &[u8],
+    ) -> Result<(), Fail> {
+        let Ok(command) = read_line(alloc, line) else {
+            panic!(rt; "no command: {line:?}");
         };
         let publish = Prefix::of(alloc, &[])?;
         let reply = self.map.step(&publish, command)?;
@@ -116,7 +131,12 @@ impl PlainRun {
     }
 
     // What a run says that opens the map at a moment and reads the keys.
-    fn reading(mut self, rt: &impl Abort, alloc: Global, mark: u64) -> Result<Vec<u8>, Fail> {
+    pub(super) fn reading(
+        mut self,
+        rt: &impl Abort,
+        alloc: Global,
+        mark: u64,
+    ) -> Result<Vec<u8>, Fail> {
         self.said = opened_line(alloc, mark)?.into_bytes();
         for line in READS {
             self.answer(rt, alloc, line)?;
@@ -252,7 +272,11 @@ impl Scenario {
 }
 
 // What a run on these files says that reads the keys.
-fn said_of_run(rt: &impl Abort, alloc: Global, image: Vec<DiskFile>) -> Result<Vec<u8>, Fail>
+pub(super) fn said_of_run(
+    rt: &impl Abort,
+    alloc: Global,
+    image: Vec<DiskFile>,
+) -> Result<Vec<u8>, Fail>
     requires apart { IsTrue (are_named_apart image.items) }
 {
     let mut host = MemoryHost::new(alloc, image, Vec::new(alloc), Vec::new(alloc), 0)?;

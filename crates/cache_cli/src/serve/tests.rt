@@ -79,7 +79,7 @@ struct Outcome {
 // The names of the data files.
 pub(super) const FIRST: &str = "s0-0000000001.log";
 
-const SECOND: &str = "s0-0000000002.log";
+pub(super) const SECOND: &str = "s0-0000000002.log";
 
 const LAST: &str = "s0-4294967294.log";
 
@@ -205,7 +205,7 @@ const REFUSALS: [Answered; 13] = [
 
 // A part of a script: some text, or a byte so many times.
 #[derive(Clone, Copy, Debug)]
-enum Part {
+pub(super) enum Part {
     Text(&'static str),
     Many(u8, usize),
 }
@@ -384,7 +384,7 @@ const DAMAGES: [(&[u8], &str); 3] = [
 const OTHERS: [&str; 4] = ["cache.toml", "s0.tree", "s7.tree", "base1.dat"];
 
 // The file's name with this text.
-fn name_of(rt: &impl Abort, alloc: Global, text: &str) -> Result<FileName, Fail>
+pub(super) fn name_of(rt: &impl Abort, alloc: Global, text: &str) -> Result<FileName, Fail>
     ensures { IfOk result IsFileName }
 {
     Ok(file_name_of(alloc, text)?.expect(rt, "a file's name"))
@@ -415,7 +415,7 @@ fn host_of(rt: &impl Abort, alloc: Global, given: &Given) -> Result<MemoryHost, 
     Ok(MemoryHost::new(alloc, files, disk_fail, say_fail, 0)?)
 }
 
-fn words_of(alloc: Global, texts: &[&str]) -> Result<Vec<String>, Fail> {
+pub(super) fn words_of(alloc: Global, texts: &[&str]) -> Result<Vec<String>, Fail> {
     let mut words = Vec::new(alloc);
     for text in texts {
         words.push(String::from_str(alloc, text)?)?;
@@ -587,7 +587,7 @@ fn refusals_change_nothing(rt: HostRuntime) -> Result<(), Fail> {
 }
 
 // The bytes of a script.
-fn script_of(alloc: Global, parts: &[Part]) -> Result<Vec<u8>, Fail> {
+pub(super) fn script_of(alloc: Global, parts: &[Part]) -> Result<Vec<u8>, Fail> {
     let mut script = Vec::new(alloc);
     for part in parts {
         match part {

@@ -1,0 +1,233 @@
+// Runs by settings that are handed in: where files end, what is written and not yet sealed, and what a step does.
+ghost use Rattle.std.specs.Prelude.{IfOk};
+ghost use Rattle.cache_model.specs.Settings.{AreInRange};
+
+use super::tests::{
+    FIRST, NamedBytes, ONE_PUT, Part, SECOND, directory_of, name_of, script_of, words_of,
+};
+use super::*;
+use cache_model::Settings;
+use host_memory::{MemoryHost, MemorySource};
+use std::process::Abort;
+use std::test::Fail;
+
+const WORDS: [&str; 2] = ["--at", "1000"];
+
+// The least size at which a file may end.
+const LEAST: u64 = 4096;
+
+// Two puts under `k` of `v1` and `v2` at the moment 1000: the first in a frame that counts, the second behind its closed
+// gate.
+const SYNCED_AND_NOT: &[u8] = &[
+    1, 1, 1, 0, 0, 0, 0, 0, 0, 0, 1, 255, 255, 255, 255, 255, 255, 255, 255, 0, 1, 0, 0, 0, 2, 107,
+    118, 49, 0, 0, 0, 0, 0, 0, 0, 3, 232, 0, 1, 0, 0, 0, 0, 0, 0, 0, 2, 255, 255, 255, 255, 255,
+    255, 255, 255, 0, 1, 0, 0, 0, 2, 107, 118, 50,
+];
+
+// A put of `c` under `a` with the number 2, alone in its file.
+const SECOND_PUT: &[u8] = &[
+    1, 1, 1, 0, 0, 0, 0, 0, 0, 0, 2, 255, 255, 255, 255, 255, 255, 255, 255, 0, 1, 0, 0, 0, 1, 97,
+    99, 0, 0, 0, 0, 0, 0, 0, 3, 232, 0,
+];
+
+// The first put behind a closed gate, and nothing behind it.
+const NOT_SEALED: &[u8] = &[
+    0, 1, 1, 0, 0, 0, 0, 0, 0, 0, 1, 255, 255, 255, 255, 255, 255, 255, 255, 0, 1, 0, 0, 0, 1, 97,
+    98,
+];
+
+// The settings with other sizes of files, and with or without a sync of each change.
+pub(super) fn settings_of(alloc: Global, beyond: u8, sync_writes: bool) -> Result<Settings, Fail>
+    ensures { IfOk result AreInRange }
+{
+    let defaults = Settings::defaults(alloc)?;
+    Ok(Settings {
+        file_size: LEAST + u64::from(beyond),
+        sync_writes,
+        ..defaults
+    })
+}
+
+// Runs the program by these settings, and says how it ends.
+pub(super) fn serve_lines(
+    alloc: Global,
+    settings: &Settings,
+    host: &mut MemoryHost,
+    script: Vec<u8>,
+) -> Result<Status, Fail>
+    requires range { AreInRange settings.now }
+{
+    let words = words_of(alloc, &WORDS)?;
+    let mut script = MemorySource::new(alloc, script, Vec::new(alloc))?;
+    Ok(serve_with(alloc, &words, settings, host, &mut script))
+}
+
+// A run over an empty directory: whether each change is synced, the script, what it says, and the files that stand then.
+type Run = (bool, &'static str, &'static str, &'static [NamedBytes]);
+
+const RUNS: [Run; 9] = [
+    // What isn't sealed stays behind its closed gate.
+    (
+        false,
+        "put k v1\nsync\nput k v2\nhalt\n",
+        "opened 1000\nok\nok\nok\nhalted\n",
+        &[(FIRST, SYNCED_AND_NOT)],
+    ),
+    (
+        false,
+        "put a b\nhalt\n",
+        "opened 1000\nok\nhalted\n",
+        &[(FIRST, NOT_SEALED)],
+    ),
+    // The end of the script seals it.
+    (
+        false,
+        "put a b\n",
+        "opened 1000\nok\nstopped\n",
+        &[(FIRST, ONE_PUT)],
+    ),
+    (
+        false,
+        "put a b\nsync\nsync\nhalt\n",
+        "opened 1000\nok\nok\nok\nhalted\n",
+        &[(FIRST, ONE_PUT)],
+    ),
+    // So does the end of the file.
+    (
+        false,
+        "put a b\nstep rotate\nhalt\n",
+        "opened 1000\nok\ndone\nhalted\n",
+        &[(FIRST, ONE_PUT)],
+    ),
+    // Without changes there is nothing to sync, and no file.
+    (
+        false,
+        "sync\nstep rotate\n",
+        "opened 1000\nok\nidle\nstopped\n",
+        &[],
+    ),
+    // A step closes the file that is written, where there is one.
+    (
+        true,
+        "step rotate\nput a b\nstep rotate\nstep rotate\n",
+        "opened 1000\nidle\nok\ndone\nidle\nstopped\n",
+        &[(FIRST, ONE_PUT)],
+    ),
+    (
+        true,
+        "put a b\nstep rotate\nput a c\n",
+        "opened 1000\nok\ndone\nok\nstopped\n",
+        &[(FIRST, ONE_PUT), (SECOND, SECOND_PUT)],
+    ),
+    (
+        true,
+        "put a b\nstep\nstep Rotate\nstep rotate x\nsync x\nsync\n",
+        "opened 1000\nok\nrefused syntax\nrefused syntax\nrefused syntax\nrefused syntax\nok\nstopped\n",
+        &[(FIRST, ONE_PUT)],
+    ),
+];
+
+// A host over an empty directory.
+fn empty_host(rt: &impl Abort, alloc: Global) -> Result<MemoryHost, Fail> {
+    let files = directory_of(rt, alloc, None)?;
+    Ok(MemoryHost::new(alloc, files, Vec::new(alloc), Vec::new(alloc), 0)?)
+}
+
+// Just these files stand, each with its bytes.
+fn has_files(
+    rt: &impl Abort,
+    alloc: Global,
+    host: &mut MemoryHost,
+    files: &[NamedBytes],
+) -> Result<(), Fail> {
+    assert_eq!(rt; host.names()?.len(), files.len(), "{files:?}");
+    for (text, bytes) in files {
+        let name = name_of(rt, alloc, text)?;
+        assert_eq!(rt; host.file(name), Some(*bytes), "{text}");
+    }
+    Ok(())
+}
+
+#[test]
+fn runs_by_settings_come_out(rt: HostRuntime) -> Result<(), Fail> {
+    let alloc = rt.alloc();
+    for (sync_writes, script, said, files) in RUNS {
+        let settings = settings_of(alloc, 0, sync_writes)?;
+        let mut host = empty_host(&rt, alloc)?;
+        let status = serve_lines(
+            alloc,
+            &settings,
+            &mut host,
+            script.as_bytes().to_vec(alloc)?,
+        )?;
+        assert_eq!(rt; status, Status::Done, "{script}");
+        assert_eq!(rt; host.said(), said.as_bytes(), "{script}");
+        has_files(&rt, alloc, &mut host, files)?;
+    }
+    Ok(())
+}
+
+// What wasn't sealed is read by no later run, and what was is.
+#[test]
+fn a_later_run_reads_what_was_synced(rt: HostRuntime) -> Result<(), Fail> {
+    let alloc = rt.alloc();
+    let settings = settings_of(alloc, 0, false)?;
+    let files = directory_of(&rt, alloc, Some((FIRST, SYNCED_AND_NOT)))?;
+    let mut host = MemoryHost::new(alloc, files, Vec::new(alloc), Vec::new(alloc), 0)?;
+    let status = serve_lines(alloc, &settings, &mut host, b"get k\n".to_vec(alloc)?)?;
+    assert_eq!(rt; status, Status::Done);
+    assert_eq!(rt; host.said(), b"opened 1000\nvalue v1\nstopped\n".as_slice());
+    assert_eq!(rt; host.names()?.len(), 1);
+    Ok(())
+}
+
+// Three puts, the first of 4,000 bytes, the second of so many, the third of one: at how many bytes beyond 4,096 a file
+// ends, whether each change is synced, and how large the two files are then.
+type Sized = (u8, bool, usize, usize, usize);
+
+const SIZES: [Sized; 9] = [
+    // With the second put the file has 4,095, 4,096 or 4,097 bytes, or it goes into the next file.
+    (0, true, 25, 4095, 37),
+    (0, true, 26, 4096, 37),
+    (0, true, 27, 4036, 98),
+    (1, true, 26, 4096, 37),
+    (1, true, 27, 4097, 37),
+    (1, true, 28, 4036, 99),
+    // Two puts in one frame.
+    (0, false, 36, 4096, 37),
+    (0, false, 37, 4036, 98),
+    (1, false, 37, 4097, 37),
+];
+
+#[test]
+fn files_end_at_their_size(rt: HostRuntime) -> Result<(), Fail> {
+    let alloc = rt.alloc();
+    for row in SIZES {
+        let (beyond, sync_writes, second, first_size, second_size) = row;
+        let script = script_of(
+            alloc,
+            &[
+                Part::Text("put k "),
+                Part::Many(b'a', 4000),
+                Part::Text("\nput k "),
+                Part::Many(b'b', second),
+                Part::Text("\nput k c\nget k\n"),
+            ],
+        )?;
+        let settings = settings_of(alloc, beyond, sync_writes)?;
+        let mut host = empty_host(&rt, alloc)?;
+        let status = serve_lines(alloc, &settings, &mut host, script)?;
+        assert_eq!(rt; status, Status::Done, "{row:?}");
+        assert_eq!(rt;
+            host.said(),
+            b"opened 1000\nok\nok\nok\nvalue c\nstopped\n".as_slice()
+        );
+        assert_eq!(rt; host.names()?.len(), 2, "{row:?}");
+        for (text, size) in [(FIRST, first_size), (SECOND, second_size)] {
+            let name = name_of(&rt, alloc, text)?;
+            let bytes = host.file(name).expect(&rt, "a data file");
+            assert_eq!(rt; bytes.len(), size, "{row:?}");
+        }
+    }
+    Ok(())
+}
