@@ -1,9 +1,12 @@
-/* What the benchmark of puts compares the program with, and how it runs the program.
+/* What the benchmarks compare the program with, and how they run the program.
  *
- * bare loop FILE MOMENT PUTS KEYS LENGTH   the writes and syncs of so many puts, with nothing else
- * bare run SCRIPT PROGRAM WORD..           the program on a script, with its output thrown away
+ * bare loop FILE MOMENT PUTS KEYS LENGTH EACH   the writes and syncs of so many puts, with nothing else; EACH is how many
+ *                                               puts stand in one frame
+ * bare read FOLDER COUNT                        opens, syncs and reads so many data files one after another
+ * bare forget FOLDER COUNT                      asks the system to forget what it holds of so many data files
+ * bare run SCRIPT PROGRAM WORD..                the program on a script, with its output thrown away
  *
- * Either prints the seconds that passed, the seconds of processor time and, of the program, the most memory in KiB. */
+ * Each prints the seconds that passed, the seconds of processor time and, of the program, the most memory in KiB. */
 #define _GNU_SOURCE
 #include <errno.h>
 #include <fcntl.h>
@@ -50,13 +53,11 @@ static uint8_t *put_number(uint8_t *to, uint64_t number, int bytes) {
     return to + bytes;
 }
 
-/* The frame of one put, and the closed gate behind it. Before the first frame stands the version. */
-static size_t spell_frame(uint8_t *frame, uint64_t number, uint64_t moment, uint64_t keys, size_t length) {
+/* The record of one put. */
+static size_t spell_record(uint8_t *record, uint64_t number, uint64_t keys, size_t length) {
     char key[32];
     int key_length = snprintf(key, sizeof key, "key%llu", (unsigned long long)((number - 1) % keys));
-    uint8_t *to = frame;
-    if (number == 1)
-        *to++ = 1;
+    uint8_t *to = record;
     *to++ = 1;
     to = put_number(to, number, 8);
     to = put_number(to, UINT64_MAX, 8);
@@ -64,10 +65,16 @@ static size_t spell_frame(uint8_t *frame, uint64_t number, uint64_t moment, uint
     to = put_number(to, length, 4);
     to = memcpy(to, key, key_length) + key_length;
     to = memset(to, 'v', length) + length;
+    return to - record;
+}
+
+/* The end of a frame, and the closed gate behind it. */
+static size_t spell_end(uint8_t *end, uint64_t moment) {
+    uint8_t *to = end;
     *to++ = 0;
     to = put_number(to, moment, 8);
     *to++ = 0;
-    return to - frame;
+    return to - end;
 }
 
 static void make_file(const char *path, int *file) {
@@ -80,30 +87,70 @@ static void make_file(const char *path, int *file) {
     need(names >= 0 && fsync(names) == 0 && close(names) == 0, "sync of the names");
 }
 
-static void loop(char **words) {
-    uint64_t moment = strtoull(words[1], NULL, 10), puts = strtoull(words[2], NULL, 10);
-    uint64_t keys = strtoull(words[3], NULL, 10);
-    size_t length = strtoull(words[4], NULL, 10);
-    uint8_t *frame = malloc(length + 128);
-    need(frame != NULL, "memory");
-    double begun = now();
-    int file;
-    make_file(words[0], &file);
-    off_t gate = 0;
-    for (uint64_t number = 1; number <= puts; number++) {
-        size_t count = spell_frame(frame, number, moment, keys, length);
-        size_t version = number == 1, record = count - 10;
-        if (version)
-            put_bytes(file, frame, 1, gate + 1);
-        put_bytes(file, frame + version, record - version, gate + 1 + version);
-        write_at(file, frame + record, 10, gate + 1 + record);
-        write_at(file, "\1", 1, gate);
-        gate += count;
-    }
-    need(close(file) == 0, "close");
+static void report(double begun) {
     struct rusage used;
     getrusage(RUSAGE_SELF, &used);
     printf("%.6f %.6f\n", now() - begun, processor_seconds(&used));
+}
+
+static void loop(char **words) {
+    uint64_t moment = strtoull(words[1], NULL, 10), puts = strtoull(words[2], NULL, 10);
+    uint64_t keys = strtoull(words[3], NULL, 10), each = strtoull(words[5], NULL, 10);
+    size_t length = strtoull(words[4], NULL, 10);
+    uint8_t *bytes = malloc(length + 128);
+    need(bytes != NULL, "memory");
+    double begun = now();
+    int file;
+    make_file(words[0], &file);
+    off_t gate = 0, at = 1;
+    put_bytes(file, "\1", 1, at++);
+    for (uint64_t number = 1; number <= puts; number++) {
+        size_t count = spell_record(bytes, number, keys, length);
+        put_bytes(file, bytes, count, at);
+        at += count;
+        if (number % each != 0 && number != puts)
+            continue;
+        count = spell_end(bytes, moment);
+        write_at(file, bytes, count, at);
+        write_at(file, "\1", 1, gate);
+        at += count;
+        gate = at - 1;
+    }
+    need(close(file) == 0, "close");
+    report(begun);
+}
+
+static void file_path(char *path, const char *folder, uint64_t number) {
+    snprintf(path, 4096, "%s/s0-%010llu.log", folder, (unsigned long long)number);
+}
+
+static void read_files(char **words) {
+    uint64_t count = strtoull(words[1], NULL, 10);
+    char path[4096], bytes[65536];
+    double begun = now();
+    for (uint64_t number = 1; number <= count; number++) {
+        file_path(path, words[0], number);
+        int file = open(path, O_RDWR);
+        need(file >= 0 && fdatasync(file) == 0, path);
+        while (read(file, bytes, sizeof bytes) > 0)
+            ;
+        need(close(file) == 0, "close");
+    }
+    report(begun);
+}
+
+static void forget_files(char **words) {
+    uint64_t count = strtoull(words[1], NULL, 10);
+    char path[4096];
+    double begun = now();
+    for (uint64_t number = 1; number <= count; number++) {
+        file_path(path, words[0], number);
+        int file = open(path, O_RDONLY);
+        need(file >= 0 && fdatasync(file) == 0, path);
+        need(posix_fadvise(file, 0, 0, POSIX_FADV_DONTNEED) == 0, "forgetting");
+        need(close(file) == 0, "close");
+    }
+    report(begun);
 }
 
 static void run(char **words) {
@@ -128,8 +175,12 @@ static void run(char **words) {
 }
 
 int main(int count, char **words) {
-    if (count == 7 && strcmp(words[1], "loop") == 0)
+    if (count == 8 && strcmp(words[1], "loop") == 0)
         loop(words + 2);
+    else if (count == 4 && strcmp(words[1], "read") == 0)
+        read_files(words + 2);
+    else if (count == 4 && strcmp(words[1], "forget") == 0)
+        forget_files(words + 2);
     else if (count >= 4 && strcmp(words[1], "run") == 0)
         run(words + 2);
     else
