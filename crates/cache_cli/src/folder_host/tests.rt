@@ -202,13 +202,18 @@ fn does_what_the_disk_does(rt: HostRuntime) -> Result<(), Fail> {
     Ok(())
 }
 
-// A call that a signal interrupts so many times.
-fn interrupted(left: &Cell<u32>) -> io::Result<u32> {
+// The platform's numbers for an interrupt, and for too many open files.
+const INTERRUPT: i32 = 4;
+
+const TOO_MANY: i32 = 24;
+
+// A call that fails so many times.
+fn failing(left: &Cell<u32>, number: i32) -> io::Result<u32> {
     match left.get() {
         0 => Ok(7),
         some => {
             left.set(some - 1);
-            Err(io::Error::from(ErrorKind::Interrupted))
+            Err(io::Error::from_raw_os_error(number))
         }
     }
 }
@@ -223,27 +228,16 @@ fn calls_are_made_again(rt: HostRuntime) -> Result<(), Fail> {
         (1_000_000, Err(ErrorKind::Interrupted)),
     ] {
         let left = Cell::new(interrupts);
-        let answer = again(&|| interrupted(&left)).map_err(|error| error.kind());
+        let answer = again(&|| failing(&left, INTERRUPT)).map_err(|error| error.kind());
         assert_eq!(rt; answer, want, "{interrupts} interrupts");
         let mut handles = Handles::new(rt.alloc(), String::new(rt.alloc()))?;
         left.set(interrupts);
         let answer = handles
-            .with_room(&|| interrupted(&left))
+            .with_room(&|| failing(&left, INTERRUPT))
             .map_err(|error| error.kind());
         assert_eq!(rt; answer, want, "{interrupts} interrupts where there is room");
     }
     Ok(())
-}
-
-// A call that finds too many files open so many times.
-fn crowded(left: &Cell<u32>) -> io::Result<u32> {
-    match left.get() {
-        0 => Ok(7),
-        some => {
-            left.set(some - 1);
-            Err(io::Error::from_raw_os_error(24))
-        }
-    }
 }
 
 #[test]
@@ -256,7 +250,7 @@ fn files_are_closed_for_others(rt: HostRuntime) -> Result<(), Fail> {
                 handles.keep(other_log(id), File::open(&rt, "/")?);
             }
             let left = Cell::new(refused);
-            let answer = handles.with_room(&|| crowded(&left));
+            let answer = handles.with_room(&|| failing(&left, TOO_MANY));
             assert_eq!(rt; answer.is_ok(), is_made, "{kept} kept, {refused} refusals");
         }
     }
