@@ -25,6 +25,8 @@ pub fn settings_in<H: Host>(alloc: Global, host: &mut H) -> Result<Settings, Sta
     ensures stands { IsTrue H.tells → Stands (H.state host.old) (H.state host.new) }
     // What the settings file says, and the defaults where there is none.
     ensures says { IsTrue H.tells → IfOk result (λ settings. HasSettings (H.state host.old).files settings) }
+    // No other settings are those of the directory.
+    ensures sole { IsTrue H.tells → IfOk result (λ settings. (other : Settings) → HasSettings (H.state host.old).files other → other ≡ settings) }
     // The status Settings only where the file is there and is no settings file.
     ensures wrong { IsTrue H.tells → IfErr result (λ ended. ended ≡ status.Settings → (settings : Settings) → HasSettings (H.state host.old).files settings → ⊥) }
     ensures in_range { IfOk result (λ settings. AreInRange settings) }
