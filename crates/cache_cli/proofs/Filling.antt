@@ -9,6 +9,7 @@ use Rattle.cache_model.specs.Files.{bytes_in}
 use Rattle.cache_disk.specs.State.{HostState}
 use Rattle.cache_disk.specs.Calls.{Read}
 use Rattle.cache_disk.proofs.Runs.{Stands-trans}
+use Rattle.data_file.specs.Windows.{AsksFor}
 use Rattle.cache_cli.specs.Causes.{Unfaulted}
 use Rattle.cache_cli.specs.DirectorySettings.{IsFilled}
 
@@ -16,6 +17,7 @@ use Rattle.cache_cli.specs.DirectorySettings.{IsFilled}
 pub record Filling (tells : Bool) (from now : HostState) (file buffer : List ℕ) (done : ℕ) : Type 0 where
   pub within : done ≤ length buffer
   pub filled : IsTrue tells → IsFilled from now file buffer done
+  pub asked : IsTrue tells → length file ≡ length buffer → AsksFor from now done
   pub unfaulted : Unfaulted from now
 
 -- the front of a list that a part was put into behind it

@@ -1,10 +1,11 @@
 // The settings of a directory: those of its settings file, and the defaults where it has none.
-ghost use Rattle.std.specs.Prelude.{◌≡◌, ◌+◌, ◌-◌, ◌<◌, ◌≤◌, ◌⊎◌, List, ℕ, length, take, Some, IsTrue, IfOk, IfErr};
+ghost use Rattle.std.specs.Prelude.{◌≡◌, ◌+◌, ◌-◌, ◌<◌, ◌≤◌, ◌⊎◌, List, ℕ, length, take, Some, IsTrue, IfOk, IfErr, OnOk};
 ghost use Rattle.cache_model.specs.declared.settings.Settings.{Settings};
 ghost use Rattle.cache_model.specs.declared.replies.Status.TheVariants as status;
 ghost use Rattle.cache_model.specs.Files.{file_in, bytes_in};
 ghost use Rattle.cache_disk.specs.State.{Stands};
 ghost use Rattle.cache_model.specs.Settings.{default_settings};
+ghost use Rattle.data_file.specs.Windows.{AsksFor};
 ghost use Rattle.cache_cli.specs.SettingsFile.{IsSettingsFile, AreInRange};
 ghost use Rattle.cache_cli.specs.DirectorySettings.{settings_name, HasSettings, HasSettingsCause, IsFilled};
 
@@ -30,6 +31,8 @@ pub fn settings_in<H: Host>(alloc: Global, host: &mut H) -> Result<Settings, Sta
     // The status Settings only where the file is there and is no settings file.
     ensures wrong { IsTrue H.tells → IfErr result (λ ended. ended ≡ status.Settings → (settings : Settings) → HasSettings (H.state host.old).files settings → ⊥) }
     ensures in_range { IfOk result (λ settings. AreInRange settings) }
+    // As many bytes are asked for as the file has, where no read gives fewer than it could.
+    ensures asked { IsTrue H.tells → OnOk result (AsksFor (H.state host.old) (H.state host.new) (length (bytes_in (H.state host.old).files settings_name))) }
     ensures cause { HasSettingsCause (H.state host.old) (H.state host.new) result }
 {
     match host.size(NAME) {
@@ -74,6 +77,7 @@ fn settings_of_file<H: Host>(alloc: Global, host: &mut H, size: usize) -> Result
     ensures wrong { IsTrue H.tells → (bytes : List ℕ) → file_in (H.state host.old).files settings_name ≡ Some bytes → length bytes ≡ size
         → IfErr result (λ ended. ended ≡ status.Settings → (settings : Settings) → IsSettingsFile bytes settings → ⊥) }
     ensures in_range { IfOk result (λ settings. AreInRange settings) }
+    ensures asked { IsTrue H.tells → length (bytes_in (H.state host.old).files settings_name) ≡ size → OnOk result (AsksFor (H.state host.old) (H.state host.new) size) }
     ensures cause { HasSettingsCause (H.state host.old) (H.state host.new) result }
 {
     let Ok(mut buffer) = Vec::from_elem(alloc, 0, size) else {
@@ -92,6 +96,8 @@ fn fill<H: Host>(host: &mut H, buffer: &mut [u8]) -> Result<usize, Status>
     ensures whole { IsTrue H.tells → length (bytes_in (H.state host.old).files settings_name) ≡ length buffer.old
         → IfOk result (λ count. take count buffer.new ≡ bytes_in (H.state host.old).files settings_name) }
     ensures refused { IfErr result (λ ended. (ended ≡ status.DiskFailed) ⊎ (ended ≡ status.NoMemory)) }
+    ensures asked { IsTrue H.tells → length (bytes_in (H.state host.old).files settings_name) ≡ length buffer.old
+        → OnOk result (AsksFor (H.state host.old) (H.state host.new) (length buffer.old)) }
     ensures cause { HasSettingsCause (H.state host.old) (H.state host.new) result }
 {
     let mut done = 0;
@@ -114,6 +120,8 @@ fn read_more<H: Host>(host: &mut H, buffer: &mut [u8], done: usize) -> Result<us
     ensures refused { IfErr result (λ ended. (ended ≡ status.DiskFailed) ⊎ (ended ≡ status.NoMemory)) }
     ensures some { IsTrue H.tells → IfOk result (λ count. done < length (bytes_in (H.state host.old).files settings_name) → 0 < count) }
     ensures stands { IsTrue H.tells → Stands (H.state host.old) (H.state host.new) }
+    ensures asked { IsTrue H.tells → (from : H) → Stands (H.state from) (H.state host.old) → length (bytes_in (H.state from).files settings_name) ≡ length buffer.old
+        → AsksFor (H.state from) (H.state host.old) done → IfOk result (λ count. AsksFor (H.state from) (H.state host.new) (done + count)) }
     ensures cause { HasSettingsCause (H.state host.old) (H.state host.new) result }
 {
     match host.read(NAME, done as u64, &mut buffer[done..]) {
