@@ -11,6 +11,8 @@ use Rattle.cache_model.specs.Replies.{Response, replies, refused, opened_line, r
 use Rattle.cache_model.specs.Transcript.{Answers, after_answer, IsTranscript, command_done, commands_done, ends_talk}
 use Rattle.cache_model.proofs.Prefixes.{plain_after_all-append}
 use Rattle.cache_disk.specs.Calls.{and_then_said}
+use Rattle.store_trait.specs.Meaning.{Row}
+use Rattle.cache_cli.specs.Parts.{parts_with, AnswerMoves, PartsThrough}
 use Rattle.cache_cli.specs.Talk.{Course, Talk, IsTalk, end_commands, done_in, plain_of, text_of, end_text, is_over}
 
 -- a talk with one answer more
@@ -86,6 +88,19 @@ transcript-append publish plain (l ∷ lines) (r ∷ responses) line response is
       transcript-append publish next lines responses line response is.2 (second_false (ends_talk r) (list_any ends_talk responses) going) (subst (λ (p : Plain). Answers publish p (meaning_of line) response) same answers),
     )
 
+-- one answer more moves the parts on
+parts-append : (plain : Plain) (lines : List (List ℕ)) (responses : List Response) (line : List ℕ) (response : Response) (a c b : List Row) → PartsThrough plain lines responses a c
+    → AnswerMoves (plain_after_all plain (commands_done lines responses)) (meaning_of line) response c b
+    → PartsThrough plain (lines ++ line ∷ []) (responses ++ response ∷ []) a b
+parts-append plain [] [] line response a c b is moves = (b, subst (λ (x : List Row). AnswerMoves plain (meaning_of line) response x b) is moves, refl)
+parts-append plain [] (r ∷ responses) line response a c b is moves = absurd is
+parts-append plain (l ∷ lines) [] line response a c b is moves = absurd is
+parts-append plain (l ∷ lines) (r ∷ responses) line response a c b is moves =
+    let next = after_answer plain (meaning_of l) r in
+    let same : plain_after_all plain (command_done (meaning_of l) r ++ commands_done lines responses) ≡ plain_after_all next (commands_done lines responses) =
+    plain_after_all-append plain (command_done (meaning_of l) r) (commands_done lines responses) ∙ ap (λ (p : Plain). plain_after_all p (commands_done lines responses)) (sym (after-answer plain (meaning_of l) r)) in
+    (is.0, is.1, parts-append next lines responses line response is.0 c b is.2 (subst (λ (p : Plain). AnswerMoves p (meaning_of line) response c b) same moves))
+
 response_lines-append : (responses : List Response) (response : Response) → response_lines (responses ++ response ∷ []) ≡ response_lines responses ++ line_of (response_text response)
 response_lines-append [] response = append-nil (line_of (response_text response))
 response_lines-append (r ∷ responses) response =
@@ -126,14 +141,16 @@ module _ (course : Course) (left : List (List ℕ)) (talk : Talk) (going : is_ov
       ∙ ap (λ (cs : List Command). cs ++ command_done (meaning_of line) response) none
 
   -- a talk with one answer more is about the lines that are left then
-  pub talk-append : (line : List ℕ) (response : Response) → IsTalk talk course (line ∷ left) → Answers [] (plain_of talk) (meaning_of line) response → IsTalk (with_answer talk line response) course left
-  talk-append line response is answers = record {
+  pub talk-append : (line : List ℕ) (response : Response) (parts : List Row) → IsTalk talk course (line ∷ left) → Answers [] (plain_of talk) (meaning_of line) response
+      → PartsThrough talk.opening (talk.answered ++ line ∷ []) (talk.responses ++ response ∷ []) (parts_with None) parts → IsTalk (with_answer talk line response) course left
+  talk-append line response parts is answers moved = record {
     opens = is.opens;
     first = is.first;
     file = is.file;
     split = is.split ∙ sym (append_assoc talk.answered (line ∷ []) left);
     answers = transcript-append [] talk.opening talk.answered talk.responses line response is.answers (none_ends talk going)
         (subst (λ (cs : List Command). Answers [] (plain_after_all talk.opening cs) (meaning_of line) response) none answers);
+    parts = (parts, moved);
     whole = λ ended. absurd (never (sym (not_ended talk going) ∙ ended));
   }
     where
@@ -142,6 +159,15 @@ module _ (course : Course) (left : List (List ℕ)) (talk : Talk) (going : is_ov
 
       never : false ≡ true → ⊥
       never h = cc
+
+  -- the parts with one answer more
+  pub moved-append : (line : List ℕ) (response : Response) (c b : List Row) → PartsThrough talk.opening talk.answered talk.responses (parts_with None) c
+      → AnswerMoves (plain_of talk) (meaning_of line) response c b
+      → PartsThrough talk.opening (talk.answered ++ line ∷ []) (talk.responses ++ response ∷ []) (parts_with None) b
+  moved-append line response c b is moves =
+      parts-append talk.opening talk.answered talk.responses line response (parts_with None) c b is
+      (subst (λ (cs : List Command). AnswerMoves (plain_after_all talk.opening cs) (meaning_of line) response c b)
+      (ap (λ (e : Bool). commands_done talk.answered talk.responses ++ end_commands e) (not_ended talk going) ∙ append-nil (commands_done talk.answered talk.responses)) moves)
 
   -- what is said with one answer more
   pub says-append : (line : List ℕ) (response : Response) (said : Option (List ℕ)) → said ≡ and_then_said course.said (text_of talk)
@@ -162,6 +188,7 @@ module _ (course : Course) (left : List (List ℕ)) (talk : Talk) (going : is_ov
     file = is.file;
     split = is.split ∙ ap (λ (l : List (List ℕ)). talk.answered ++ l) none;
     answers = is.answers;
+    parts = is.parts;
     whole = λ ended. (refl, none_ends talk going);
   }
 

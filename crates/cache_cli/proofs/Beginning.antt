@@ -68,6 +68,7 @@ module _ (course : Course) (ordered : Bool) (now : View) (begins : Begins course
       is_ordered = begins.is_ordered;
     };
     moment = begins.moment;
+    parts = begins.parts;
     numbers = (begins.first, begins.numbers, record { sequence = omega arith; file = omega arith; within = λ some. absurd (omega (arith, some)) });
     drawn = omega (arith, begins.drawn);
     made = omega (arith, begins.made);

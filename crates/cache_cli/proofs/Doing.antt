@@ -15,7 +15,9 @@ use Rattle.cache_session.specs.Turns.{Turns, IsBuilt}
 use Rattle.cache_cli.specs.Talk.{Course, Talk, plain_of, next_command}
 use Rattle.cache_cli.specs.Ends.{EndsEarly}
 use Rattle.cache_cli.specs.Run.{View, IsTalking, EndsBy, Does}
+use Rattle.cache_cli.specs.Parts.{FollowsParts}
 use Rattle.cache_cli.proofs.Built.{reply_is}
+use Rattle.cache_cli.proofs.Moving.{command_moves, room_left}
 use Rattle.cache_cli.proofs.Running.{turn_holds, done_tells, refused_tells}
 use Rattle.cache_cli.proofs.Ending.{ends_early}
 
@@ -41,14 +43,15 @@ module _ (from : HostState) (course : Course) (ordered : Bool) (left : List (Lis
     (hand : next_command left ≡ command ∷ [])
     (same : SameStore old.facts new.facts) where
   -- a command was done
-  pub does_ok : (reply : Reply) → IsBuilt command → spoilt ≡ false → HoldsNow new.facts new.store new.host.turn → new.moment ≡ moment_after old.moment command
+  pub does_ok : (reply : Reply) → IsBuilt command → FollowsParts old.facts old.store → spoilt ≡ false → HoldsNow new.facts new.store new.host.turn → new.moment ≡ moment_after old.moment command
       → Turns [] (plain_of talk) command old.facts new.facts spoilt old.store new.store old.host new.host (Ok reply)
       → Does from course ordered left talk command old new (Ok (Some reply))
-  does_ok reply built unspoilt now moment turn = record {
+  does_ok reply built follows unspoilt now moment turn = record {
     goes = (
       reply_is command (plain_of talk) reply old.store old.facts.parts new.facts.parts built turn.reply turn.step,
-      λ next said answered responses ended done is_talk says. done_tells from course ordered left talk old new command spoilt talking hand same unspoilt reply next said answered responses ended turn now moment done is_talk says,
+      λ next said answered responses ended done is_talk moved says. done_tells from course ordered left talk old new command spoilt talking hand same unspoilt reply next said answered responses ended turn now moment done is_talk moved says,
       quiet_end old.host new.host turn.did.others.images.later turn.did.silent,
+      command_moves old.facts old.store follows command (plain_of talk) turn.changes turn.order reply old.facts.parts new.facts.parts turn.did.parts turn.step,
     );
     silent = turn.did.silent;
     ends = tt;
@@ -56,11 +59,11 @@ module _ (from : HostState) (course : Course) (ordered : Bool) (left : List (Lis
   }
 
   -- a command was refused for want of memory
-  pub does_refused : spoilt ≡ false → may_be_refused command ≡ true → new.moment ≡ old.moment
+  pub does_refused : FollowsParts old.facts old.store → spoilt ≡ false → may_be_refused command ≡ true → new.moment ≡ old.moment
       → Turns [] (plain_of talk) command old.facts new.facts spoilt old.store new.store old.host new.host (Err fault.Memory)
       → Does from course ordered left talk command old new (Ok None)
-  does_refused unspoilt may moment turn = record {
-    goes = (refused_tells from course ordered left talk old new command spoilt talking hand same unspoilt turn moment, may);
+  does_refused follows unspoilt may moment turn = record {
+    goes = (refused_tells from course ordered left talk old new command spoilt talking hand same unspoilt turn moment (room_left old.facts old.store follows old.facts.parts new.facts.parts (turn.did.refused refl unspoilt).parts), may);
     silent = turn.did.silent;
     ends = tt;
     holds = turn_holds from course ordered left talk old new command spoilt (Err fault.Memory) talking hand same turn;

@@ -9,6 +9,7 @@ mod Filling
 mod Lines
 mod Listing
 mod Logs
+mod Moving
 mod Running
 mod Same
 mod Serving

@@ -1,5 +1,5 @@
 -- A line more is answered.
-use Rattle.std.proofs.Common.{◌≡◌, inl, ℕ, Bool, true, false, List, [], ◌∷◌, ◌++◌, Result, Ok, Err, refl, sym, ◌∙◌, ap, subst}
+use Rattle.std.proofs.Common.{◌≡◌, inl, ℕ, Bool, true, false, List, [], ◌∷◌, ◌++◌, Result, Ok, Err, None, refl, sym, ◌∙◌, ap, subst}
 use Rattle.std.specs.Prelude.{◌||◌, not}
 use Rattle.std.specs.List.{list_any}
 use Rattle.std.proofs.lemmas.List.{append-nil}
@@ -8,15 +8,17 @@ use Rattle.cache_model.specs.declared.commands.Command.{Command}
 use Rattle.cache_model.specs.declared.commands.Command.TheVariants.{Stop}
 use Rattle.cache_model.specs.declared.replies.Reply.{Reply}
 use Rattle.cache_model.specs.declared.replies.Status.{Status}
-use Rattle.cache_model.specs.Plain.{plain_reply}
+use Rattle.cache_model.specs.Plain.{Plain, plain_reply}
 use Rattle.cache_model.specs.Lines.{LineMeaning, asks, refuses, meaning_of}
 use Rattle.cache_model.specs.Replies.{Response, Refusal, replies, refused, reply_text, refusal_text, response_text, line_of}
 use Rattle.cache_model.specs.Transcript.{IsReply, Answers, command_done, ends_talk}
 use Rattle.cache_disk.specs.State.{HostState}
 use Rattle.cache_disk.specs.Calls.{and_then_said}
+use Rattle.store_trait.specs.Meaning.{Row}
+use Rattle.cache_cli.specs.Parts.{parts_with, CommandMoves, AnswerMoves, PartsThrough}
 use Rattle.cache_cli.specs.Talk.{Course, Talk, done_in, plain_of, is_over}
 use Rattle.cache_cli.specs.Run.{View, TellsMore, IsTelling, IsTalking, IsInHand, Told, AnswersBy, Answered, LongAnswered, Closed}
-use Rattle.cache_cli.proofs.Answering.{with_answer, with_end, not_ended, none_ends, done-append, talk-append, says-append, done-end, talk-end, says-end}
+use Rattle.cache_cli.proofs.Answering.{with_answer, with_end, not_ended, none_ends, done-append, talk-append, moved-append, says-append, done-end, talk-end, says-end}
 use Rattle.cache_cli.proofs.Running.{retell}
 use Rattle.cache_cli.proofs.Ending.{says_of, ends_saying}
 
@@ -37,6 +39,11 @@ none_done : (meaning : LineMeaning) (refusal : Refusal) → command_done meaning
 none_done (asks command) refusal = refl
 none_done (refuses other) refusal = refl
 
+-- and leaves the parts
+left_so : (plain : Plain) (meaning : LineMeaning) (refusal : Refusal) (parts : List Row) → AnswerMoves plain meaning (refused refusal) parts parts
+left_so plain (asks command) refusal parts = refl
+left_so plain (refuses other) refusal parts = refl
+
 pub refusal_in_hand : (from : HostState) (course : Course) (ordered : Bool) (left : List (List ℕ)) (talk : Talk) (line : List ℕ) (refusal : Refusal) (now : View)
     → IsTalking from course ordered (line ∷ left) talk now
     → Answers [] (plain_of talk) (meaning_of line) (refused refusal)
@@ -44,10 +51,12 @@ pub refusal_in_hand : (from : HostState) (course : Course) (ordered : Bool) (lef
 refusal_in_hand from course ordered left talk line refusal now talking answers =
     let response = refused refusal in
     let is = talking.0.is_talk in
+    let parts = now.facts.parts in
+    let moved = moved-append course left talk talking.1 line response parts parts talking.0.parts (left_so (plain_of talk) (meaning_of line) refusal parts) in
     retell from course ordered (line ∷ left) left talk now (now.host.said now.host.turn) (and_then_said (now.host.said now.host.turn) (line_of (refusal_text refusal)))
     (talk.answered ++ line ∷ []) (talk.responses ++ response ∷ []) talk.ended talking.0
     (done-append course left talk talking.1 line response is ∙ ap (λ (cs : List Command). done_in talk ++ cs) (none_done (meaning_of line) refusal) ∙ append-nil (done_in talk))
-    (talk-append course left talk talking.1 line response is answers)
+    (talk-append course left talk talking.1 line response parts is answers moved) moved
     (says-append course left talk talking.1 line response (now.host.said now.host.turn) talking.0.says)
 
 -- the reply of a command that was done is in hand
@@ -57,13 +66,17 @@ pub reply_in_hand : (from : HostState) (course : Course) (ordered : Bool) (left 
     → IsReply command (plain_reply [] (plain_of talk) command) (replies reply)
     → now.host.said now.host.turn ≡ old.host.said old.host.turn
     → TellsMore from course ordered talk command now
+    → CommandMoves (plain_of talk) command reply old.facts.parts now.facts.parts
     → IsInHand from course ordered left (with_answer talk line (replies reply)) (line_of (reply_text reply)) now
-reply_in_hand from course ordered left talk line command reply old now talking asked is_reply_of said more =
+reply_in_hand from course ordered left talk line command reply old now talking asked is_reply_of said more moves =
     let response = replies reply in
     let is = talking.0.is_talk in
+    let parts = now.facts.parts in
+    let moved = moved-append course left talk talking.1 line response old.facts.parts parts talking.0.parts
+    (subst (λ (m : LineMeaning). AnswerMoves (plain_of talk) m response old.facts.parts parts) (sym asked) moves) in
     more left (and_then_said (now.host.said now.host.turn) (line_of (reply_text reply))) (talk.answered ++ line ∷ []) (talk.responses ++ response ∷ []) talk.ended
     (done-append course left talk talking.1 line response is ∙ ap (λ (m : LineMeaning). done_in talk ++ command_done m response) asked)
-    (talk-append course left talk talking.1 line response is (subst (λ (m : LineMeaning). Answers [] (plain_of talk) m response) (sym asked) (inl is_reply_of)))
+    (talk-append course left talk talking.1 line response parts is (subst (λ (m : LineMeaning). Answers [] (plain_of talk) m response) (sym asked) (inl is_reply_of)) moved) moved
     (says-append course left talk talking.1 line response (now.host.said now.host.turn) (said ∙ talking.0.says))
 
 -- the answer to the end of the script is in hand
@@ -72,11 +85,13 @@ pub end_in_hand : (from : HostState) (course : Course) (ordered : Bool) (talk : 
     → IsReply Stop (plain_reply [] (plain_of talk) Stop) (replies reply)
     → now.host.said now.host.turn ≡ old.host.said old.host.turn
     → TellsMore from course ordered talk Stop now
+    → CommandMoves (plain_of talk) Stop reply old.facts.parts now.facts.parts
     → IsInHand from course ordered [] (with_end talk) (line_of (reply_text reply)) now
-end_in_hand from course ordered talk reply old now talking stopped said more =
+end_in_hand from course ordered talk reply old now talking stopped said more moves =
     more [] (and_then_said (now.host.said now.host.turn) (line_of (reply_text reply))) talk.answered talk.responses true
     (done-end course [] talk talking.1)
     (talk-end course [] talk talking.1 talking.0.is_talk refl)
+    (subst (λ (b : List Row). PartsThrough talk.opening talk.answered talk.responses (parts_with None) b) (sym moves) talking.0.parts)
     (ap (λ (r : Response). and_then_said (now.host.said now.host.turn) (line_of (response_text r))) stopped ∙ says-end course [] talk talking.1 (now.host.said now.host.turn) (said ∙ talking.0.says))
 
 module _ (from : HostState) (course : Course) (ordered : Bool) (left : List (List ℕ)) (talk : Talk) (line : List ℕ) (response : Response) (going : is_over talk ≡ false) where

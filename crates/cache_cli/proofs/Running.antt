@@ -16,12 +16,13 @@ use Rattle.cache_disk.specs.declared.host.HostFault.{HostFault}
 use Rattle.cache_disk.specs.State.{HostState, Silent, GoesOn, Moves, SameFiles}
 use Rattle.cache_disk.specs.Calls.{Said, and_then_said}
 use Rattle.cache_disk.proofs.Runs.{weaker}
-use Rattle.store_trait.specs.Meaning.{Reading, Content, Numbers, StoreFacts, StoreState}
+use Rattle.store_trait.specs.Meaning.{Reading, Content, Row, Numbers, StoreFacts, StoreState}
 use Rattle.store_trait.specs.Keeping.{SameWhere, SameStore, Leaves, Carries, HoldsNow}
 use Rattle.store_trait.specs.Calls.{IsNumbered}
 use Rattle.store_trait.proofs.Runs.{leaves_then}
 use Rattle.cache_session.specs.Turns.{files_by, Turns}
 use Rattle.cache_cli.specs.Fitting.{promised_of, IsLog, ReadsPrefix, ReadsCut}
+use Rattle.cache_cli.specs.Parts.{parts_with, PartsThrough}
 use Rattle.cache_cli.specs.Standing.{Standing}
 use Rattle.cache_cli.specs.Talk.{Course, Talk, IsTalk, done_in, plain_of, text_of, is_over, hand_of, next_command}
 use Rattle.cache_cli.specs.Run.{View, with_words, TellsAt, HoldsSince, IsTelling, IsTalking, IsInHand}
@@ -138,9 +139,10 @@ pub retell : (from : HostState) (course : Course) (ordered : Bool) (left left_ne
     → IsTelling from course ordered left talk now said
     → done_in (with_words talk answered responses ended) ≡ done_in talk
     → IsTalk (with_words talk answered responses ended) course left_next
+    → PartsThrough talk.opening answered responses (parts_with None) now.facts.parts
     → said_next ≡ and_then_said course.said (text_of (with_words talk answered responses ended))
     → IsTelling from course ordered left_next (with_words talk answered responses ended) now said_next
-retell from course ordered left left_next talk now said said_next answered responses ended telling done is_talk says =
+retell from course ordered left left_next talk now said said_next answered responses ended telling done is_talk moved says =
     let next = with_words talk answered responses ended in
     let standing = standing_at talk.opening (done_in talk) (done_in next) course.synced ordered now.facts telling.base now.store now.host.turn (sym done) telling.standing in
     let len : length telling.standing.log ≡ length standing.0.log = ap (λ (l : List Change). length l) (sym standing.1) in
@@ -153,6 +155,7 @@ retell from course ordered left left_next talk now said said_next answered respo
       opening = telling.opening;
       standing = standing.0;
       moment = ap (λ (l : List Command). (plain_after_all talk.opening l).moment) done ∙ telling.moment;
+      parts = moved;
       numbers = numbered_by (length telling.standing.log) (length standing.0.log) (Some talk.first) now.facts.numbers len telling.numbers;
       drawn = omega (arith, telling.drawn, len);
       made = omega (arith, telling.made, len, ap (λ (l : List Command). sum_by files_by l) done);
@@ -171,9 +174,10 @@ module _ (from : HostState) (course : Course) (ordered : Bool) (left : List (Lis
       → new.moment ≡ moment_after old.moment command
       → done_in (with_words talk answered responses ended) ≡ done_in talk ++ command ∷ []
       → IsTalk (with_words talk answered responses ended) course left_next
+      → PartsThrough talk.opening answered responses (parts_with None) new.facts.parts
       → said ≡ and_then_said course.said (text_of (with_words talk answered responses ended))
       → IsTelling from course ordered left_next (with_words talk answered responses ended) new said
-  done_tells reply left_next said answered responses ended turn now moment done is_talk says =
+  done_tells reply left_next said answered responses ended turn now moment done is_talk moved says =
       let next = with_words talk answered responses ended in
       let so = talking.0 in
       let plain = talk.opening in
@@ -193,6 +197,7 @@ module _ (from : HostState) (course : Course) (ordered : Bool) (left : List (Lis
         standing = standing.0;
         moment = ap (λ (l : List Command). (plain_after_all plain l).moment) done ∙ ap (λ (p : Plain). p.moment) (plain_after_all-append plain (done_in talk) (command ∷ []))
             ∙ ap (λ (m : ℕ). moment_after m command) so.moment ∙ sym moment;
+        parts = moved;
         numbers = numbered_by (length so.standing.log + length turn.changes) (length standing.0.log) (Some talk.first) new.facts.numbers (sym len)
             (numbered_then (length so.standing.log) (length turn.changes) talk.first old.facts.numbers new.facts.numbers so.numbers turn.did.numbers);
         drawn = omega (arith, so.drawn, turn.did.drawn, len);
@@ -203,8 +208,9 @@ module _ (from : HostState) (course : Course) (ordered : Bool) (left : List (Lis
   -- a command was refused, and changed nothing
   pub refused_tells : (turn : Turns [] (plain_of talk) command old.facts new.facts spoilt old.store new.store old.host new.host (Err fault.Memory))
       → new.moment ≡ old.moment
+      → new.facts.parts ≡ old.facts.parts
       → IsTalking from course ordered left talk new
-  refused_tells turn moment =
+  refused_tells turn moment parts =
       let so = talking.0 in
       let plain = talk.opening in
       let kept = turn.did.refused refl unspoilt in
@@ -219,6 +225,7 @@ module _ (from : HostState) (course : Course) (ordered : Bool) (left : List (Lis
           opening = so.opening;
           standing = standing.0;
           moment = so.moment ∙ sym moment;
+          parts = subst (λ (b : List Row). PartsThrough talk.opening talk.answered talk.responses (parts_with None) b) (sym parts) so.parts;
           numbers = numbered_by (length so.standing.log + 0) (length standing.0.log) (Some talk.first) new.facts.numbers (omega (arith, len))
               (numbered_then (length so.standing.log) 0 talk.first old.facts.numbers new.facts.numbers so.numbers kept.numbers.numbers);
           drawn = omega (arith, so.drawn, kept.numbers.drawn, len);
@@ -303,6 +310,7 @@ module _ (from : HostState) (course : Course) (ordered : Bool) (left : List (Lis
         opening = hand.opening;
         standing = standing.0;
         moment = hand.moment ∙ sym moment;
+        parts = subst (λ (f : StoreFacts). PartsThrough talk.opening talk.answered talk.responses (parts_with None) f.parts) (sym same) hand.parts;
         numbers = numbered_by (length hand.standing.log) (length standing.0.log) (Some talk.first) new.facts.numbers (sym standing.1)
             (subst (λ (f : StoreFacts). IsNumbered (length hand.standing.log) (Some talk.first) f.numbers) (sym same) hand.numbers);
         drawn = omega (arith, hand.drawn, standing.1, ap_drawn);

@@ -10,6 +10,10 @@ use Rattle.cache_model.specs.declared.files.FileName.{FileName}
 use Rattle.cache_model.specs.declared.replies.Status.{Status}
 use Rattle.cache_model.specs.declared.replies.Status.TheVariants as status
 use Rattle.cache_model.specs.declared.settings.Settings.{Settings}
+use Rattle.cache_model.specs.declared.commands.StepKind.{StepKind}
+use Rattle.cache_model.specs.declared.commands.StepKind.TheVariants.{Index, Flush, Compact, Evict, Reap, Rotate}
+use Rattle.cache_model.specs.declared.replies.Turned.{Turned}
+use Rattle.cache_model.specs.declared.replies.Turned.TheVariants.{Done, Idle}
 use Rattle.cache_model.specs.Settings.{AreInRange}
 use Rattle.cache_model.specs.Files.{Image}
 use Rattle.std.specs.FinMap.{get}
@@ -28,12 +32,13 @@ use Rattle.data_file.specs.declared.appender.Appender.{Appender}
 use Rattle.soft_index.specs.declared.log_store.LogStore.{LogStore}
 use Rattle.soft_index.specs.Index.{IsRead, IsStarted}
 use Rattle.soft_index.specs.Opening.{IsFirstDamageOf}
-use Rattle.soft_index.specs.Store.{AreInRange as IsInRangeOfStore, HasReading, row_of, current_of, next_file, is_spent, owns_file}
+use Rattle.soft_index.specs.Store.{AreInRange as IsInRangeOfStore, HasReading, row_of, current_of, next_file, is_spent, owns_file, StepsBy}
 use Rattle.cache_session.specs.declared.session.Session.{Session}
 use Rattle.cache_session.specs.Changing.{of_key}
 use Rattle.cache_session.specs.Turns.{store_of, moment_of, is_broken, IsFit}
 use Rattle.cache_cli.specs.Fitting.{entry_of_reading}
 use Rattle.cache_cli.specs.Talk.{Course, FitsTalkTogether, HoldsAtTurn, HoldsTogetherAtTurn, done_in, is_over, hand_of}
+use Rattle.cache_cli.specs.Parts.{parts_with, ActorMoves}
 use Rattle.cache_cli.specs.Run.{View, view, view_by, TellsAt, HoldsSince, EndsSaying, EndsAtSpent, EndsBy}
 use Rattle.cache_cli.specs.Ends.{EndsSpent, Ends, EndsRefused}
 use Rattle.cache_cli.specs.Opening.{Begins, Finished}
@@ -272,6 +277,7 @@ begins settings from mid given moment mark lines facts state opened drawn made s
         file = started.numbers.3;
         split = refl;
         answers = tt;
+        parts = (parts_with None, refl);
         whole = λ ended. absurd (false_true ended);
       };
       silent = read_said from mid opened.read;
@@ -283,6 +289,7 @@ begins settings from mid given moment mark lines facts state opened drawn made s
       numbers = started.numbers.1;
       drawn = drawn;
       made = made;
+      parts = started.parts;
       firm = started.firm;
       is_ordered = ordered;
     }
@@ -456,3 +463,13 @@ opened_by settings from mid facts state mark read started settled = record { rea
 -- the store's own ranges are among those of all settings
 pub store_in_range : (settings : Settings) → AreInRange settings → IsInRangeOfStore settings
 store_in_range settings range = record { file_size = range.file_size.1; bits = range.hash_bits }
+
+-- the store's steps are those of a talk
+pub store_steps : (kind : StepKind) (turned : Turned) (a b : List Row) → StepsBy kind turned a b → ActorMoves kind turned a b
+store_steps Rotate Done a b steps = steps
+store_steps Rotate Idle a b steps = steps
+store_steps Index turned a b steps = steps
+store_steps Flush turned a b steps = steps
+store_steps Compact turned a b steps = steps
+store_steps Evict turned a b steps = steps
+store_steps Reap turned a b steps = steps

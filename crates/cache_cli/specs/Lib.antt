@@ -5,6 +5,7 @@ pub mod Ends
 pub mod Fitting
 pub mod Foreign
 pub mod Opening
+pub mod Parts
 pub mod Run
 pub mod Saying
 pub mod Serving

@@ -1,5 +1,5 @@
 -- How a run begins: a store is opened, and nothing was said.
-use Rattle.std.specs.Prelude.{◌≡◌, ◌⊎◌, ℕ, ◌≤◌, Bool, false, List, [], Some, Result, OnOk, IfErr}
+use Rattle.std.specs.Prelude.{◌≡◌, ◌⊎◌, ℕ, ◌≤◌, Bool, false, List, [], Some, None, Result, OnOk, IfErr}
 use Rattle.cache_model.specs.declared.replies.Status.{Status}
 use Rattle.cache_model.specs.Plain.{Plain}
 use Rattle.cache_disk.specs.State.{HostState}
@@ -8,6 +8,7 @@ use Rattle.store_trait.specs.Keeping.{IsOnly}
 use Rattle.cache_cli.specs.Fitting.{IsOpening}
 use Rattle.cache_cli.specs.Talk.{Course, Talk, IsTalk}
 use Rattle.cache_cli.specs.Ends.{EndsWhole}
+use Rattle.cache_cli.specs.Parts.{parts_with}
 use Rattle.cache_cli.specs.Run.{View, EndsSaying, EndsBy, HoldsSince}
 
 -- the talk of a run that said nothing yet
@@ -29,6 +30,7 @@ pub record Begins (course : Course) (ordered : Bool) (now : View) : Type 0 where
   pub numbers : now.facts.numbers ≡ Some first
   pub drawn : now.facts.drawn ≤ first.sequence
   pub made : now.facts.made ≤ first.file
+  pub parts : now.facts.parts ≡ parts_with None
   pub firm : now.facts.firm ≡ course.synced
   pub is_ordered : now.facts.ordered ≡ ordered
 

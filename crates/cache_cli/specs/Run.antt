@@ -19,6 +19,7 @@ use Rattle.cache_session.specs.Changing.{Shows}
 use Rattle.cache_session.specs.declared.session.Session.{Session}
 use Rattle.cache_session.specs.Turns.{store_of, moment_of, promises, files_by, IsContentAfter}
 use Rattle.cache_cli.specs.Fitting.{IsLog, IsOpening, ReadsPrefix, ReadsCut}
+use Rattle.cache_cli.specs.Parts.{parts_with, CommandMoves, PartsThrough}
 use Rattle.cache_cli.specs.Standing.{Standing}
 use Rattle.cache_cli.specs.Talk.{Course, Talk, IsTalk, plain_of, done_in, text_of, is_over, hand_of, next_command}
 use Rattle.cache_cli.specs.Ends.{Says, EndsEarly, EndsUnsaid, EndsTaken}
@@ -70,6 +71,7 @@ pub record IsTelling (from : HostState) (course : Course) (ordered : Bool) (left
   pub opening : IsOpening talk.opening base
   pub standing : Standing talk.opening (done_in talk) course.synced ordered now.facts base now.store now.host.turn
   pub moment : (plain_of talk).moment ≡ now.moment
+  pub parts : PartsThrough talk.opening talk.answered talk.responses (parts_with None) now.facts.parts
   pub numbers : IsNumbered (length standing.log) (Some talk.first) now.facts.numbers
   pub drawn : now.facts.drawn ≤ talk.first.sequence + length standing.log
   pub made : now.facts.made ≤ talk.first.file + length standing.log + sum_by files_by (done_in talk)
@@ -132,6 +134,7 @@ TellsMore from course ordered talk command now =
     (left : List (List ℕ)) (said : Option (List ℕ)) (answered : List (List ℕ)) (responses : List Response) (ended : Bool)
     → done_in (with_words talk answered responses ended) ≡ done_in talk ++ command ∷ []
     → IsTalk (with_words talk answered responses ended) course left
+    → PartsThrough talk.opening answered responses (parts_with None) now.facts.parts
     → said ≡ and_then_said course.said (text_of (with_words talk answered responses ended))
     → IsTelling from course ordered left (with_words talk answered responses ended) now said
 
@@ -139,6 +142,7 @@ TellsMore from course ordered talk command now =
 abbrev pub DoesBy : Option Reply → HostState → Course → Bool → List (List ℕ) → Talk → Command → View → View → Type 0
 DoesBy (Some reply) from course ordered left talk command old now =
     IsReply command (plain_reply [] (plain_of talk) command) (replies reply) × TellsMore from course ordered talk command now × (now.host.said now.host.turn ≡ old.host.said old.host.turn)
+    × CommandMoves (plain_of talk) command reply old.facts.parts now.facts.parts
 DoesBy None from course ordered left talk command old now = IsTalking from course ordered left talk now × IsTrue (may_be_refused command)
 
 -- The command in hand was done, or refused for want of memory, or the run ended.

@@ -14,9 +14,10 @@ use Rattle.cache_model.specs.Numbers.{Opens, IsNextSequence, IsNextFile}
 use Rattle.cache_model.specs.Prefix.{FitsPrefix}
 use Rattle.cache_disk.specs.State.{HostState}
 use Rattle.cache_disk.specs.Calls.{and_then_said}
-use Rattle.store_trait.specs.Meaning.{Numbers}
+use Rattle.store_trait.specs.Meaning.{Numbers, Row}
 use Rattle.cache_session.specs.Changing.{of_key}
 use Rattle.cache_cli.specs.Fitting.{promised_of, IsLog}
+use Rattle.cache_cli.specs.Parts.{parts_with, PartsThrough}
 
 -- What a run is about: the files as they read when it began, what was said by then, the moment that was given, the lines of
 -- the script, and whether each change is synced before it is answered.
@@ -63,13 +64,14 @@ abbrev pub is_over : Talk → Bool
 is_over talk = talk.ended || list_any ends_talk talk.responses
 
 -- A talk is one about a course: it opens with what the files say and goes on with their next numbers, and answers the
--- first lines as one plain map does. These lines are left.
+-- first lines as one plain map does, and steps by the parts of a store. These lines are left.
 pub record IsTalk (talk : Talk) (course : Course) (left : List (List ℕ)) : Type 0 where
   pub opens : Opens course.files course.given talk.opening
   pub first : IsNextSequence course.files talk.first.sequence
   pub file : IsNextFile course.files talk.first.file
   pub split : course.lines ≡ talk.answered ++ left
   pub answers : IsTranscript [] talk.opening talk.answered talk.responses
+  pub parts : (b : List Row) × PartsThrough talk.opening talk.answered talk.responses (parts_with None) b
   pub whole : talk.ended ≡ true → (left ≡ []) × (list_any ends_talk talk.responses ≡ false)
 
 -- the command that a line asks for, where it asks for one

@@ -8,6 +8,7 @@ ghost use Rattle.cache_script.specs.LineReader.{units_taken};
 ghost use Rattle.cache_session.specs.Turns.{store_of, moment_of, is_broken, IsBuilt, IsFit};
 ghost use Rattle.cache_cli.specs.Causes.{HasHostCause, HasCause};
 ghost use Rattle.cache_cli.specs.Talk.{Course, Talk, next_command};
+ghost use Rattle.cache_cli.specs.Parts.{FollowsParts};
 ghost use Rattle.cache_cli.specs.Run.{view_by, IsTalking, Does, Answered, LongAnswered, Closed};
 ghost use Rattle.cache_cli.specs.Steps.{IsTalkingOn, Stepped, Ran};
 
@@ -57,6 +58,7 @@ fn do_command<H: Host, S: Store<H>>(
     host: &mut H,
     command: Command,
 ) -> Result<Option<Reply>, Status>
+    requires follows { (s : S) (h : H) → FollowsParts (S.facts s) (S.means s (H.state h)) }
     requires fit { IsFit (S.facts (store_of session.old)) (is_broken session.old) (moment_of session.old) }
     requires stands { IsTrue H.tells → (S.means (store_of session.old) (H.state host.old)).stands }
     requires command { IsCommand command }
@@ -92,6 +94,7 @@ fn answer<H: Host, S: Store<H>>(
     host: &mut H,
     command: Command,
 ) -> Result<bool, Status>
+    requires follows { (s : S) (h : H) → FollowsParts (S.facts s) (S.means s (H.state h)) }
     requires fit { IsFit (S.facts (store_of session.old)) (is_broken session.old) (moment_of session.old) }
     requires stands { IsTrue H.tells → (S.means (store_of session.old) (H.state host.old)).stands }
     requires command { IsCommand command }
@@ -123,6 +126,7 @@ fn answer_end<H: Host, S: Store<H>>(
     session: &mut Session<S>,
     host: &mut H,
 ) -> Result<(), Status>
+    requires follows { (s : S) (h : H) → FollowsParts (S.facts s) (S.means s (H.state h)) }
     requires fit { IsFit (S.facts (store_of session.old)) (is_broken session.old) (moment_of session.old) }
     requires stands { IsTrue H.tells → (S.means (store_of session.old) (H.state host.old)).stands }
     ensures ended { IsTrue H.tells → (from : H) (course : Course) (ordered : Bool) (talk : Talk)
@@ -144,6 +148,7 @@ fn answer_line<H: Host, S: Store<H>>(
     host: &mut H,
     line: &[u8],
 ) -> Result<bool, Status>
+    requires follows { (s : S) (h : H) → FollowsParts (S.facts s) (S.means s (H.state h)) }
     requires fit { IsFit (S.facts (store_of session.old)) (is_broken session.old) (moment_of session.old) }
     requires stands { IsTrue H.tells → (S.means (store_of session.old) (H.state host.old)).stands }
     ensures fit { OnOk result (IsFit (S.facts (store_of session.new)) (is_broken session.new) (moment_of session.new)) }
@@ -183,6 +188,7 @@ fn answer_next<H: Host, I: Source, S: Store<H>>(
     host: &mut H,
     script: &mut I,
 ) -> Result<bool, Status>
+    requires follows { (s : S) (h : H) → FollowsParts (S.facts s) (S.means s (H.state h)) }
     requires fit { IsFit (S.facts (store_of session.old)) (is_broken session.old) (moment_of session.old) }
     requires stands { IsTrue H.tells → (S.means (store_of session.old) (H.state host.old)).stands }
     ensures fit { IfOk result (λ more. more ≡ true → IsFit (S.facts (store_of session.new)) (is_broken session.new) (moment_of session.new)) }
@@ -217,6 +223,7 @@ pub fn answer_script<H: Host, I: Source, S: Store<H>>(
     host: &mut H,
     script: &mut I,
 ) -> Result<(), Status>
+    requires follows { (s : S) (h : H) → FollowsParts (S.facts s) (S.means s (H.state h)) }
     requires fit { IsFit (S.facts (store_of session.old)) (is_broken session.old) (moment_of session.old) }
     requires stands { IsTrue H.tells → (S.means (store_of session.old) (H.state host.old)).stands }
     ensures ran { IsTrue H.tells → IsTrue I.tells → (from : H) (course : Course) (ordered : Bool) (talk : Talk)

@@ -13,6 +13,7 @@ ghost use Rattle.cache_session.specs.Turns.{store_of, moment_of, is_broken, IsFi
 ghost use Rattle.cache_cli.specs.Causes.{CauseOf, HostCauseOf, HasHostCause, HasCause};
 ghost use Rattle.cache_cli.specs.Foreign.{IsForeign};
 ghost use Rattle.cache_cli.specs.Talk.{Course, HoldsThroughout, HoldsTogether};
+ghost use Rattle.cache_cli.specs.Parts.{FollowsParts};
 ghost use Rattle.cache_cli.specs.Run.{view, view_by};
 ghost use Rattle.cache_cli.specs.Opening.{Begins, Finished};
 ghost use Rattle.cache_cli.specs.Ends.{IsUnused, Ends, EndsForeign, EndsRefused};
@@ -180,6 +181,7 @@ fn run_store<H: Host, I: Source, S: Store<H>>(
     host: &mut H,
     script: &mut I,
 ) -> Ran<S>
+    requires follows { (s : S) (h : H) → FollowsParts (S.facts s) (S.means s (H.state h)) }
     requires ready { IsReady (S.facts store) moment }
     requires stands { IsTrue H.tells → (S.means store (H.state host.old)).stands }
     ensures finished { IsTrue H.tells → IsTrue I.tells → (course : Course) (ordered : Bool)
@@ -200,6 +202,7 @@ fn converse<H: Host, I: Source, S: Store<H>>(
     host: &mut H,
     script: &mut I,
 ) -> Result<(), Status>
+    requires follows { (s : S) (h : H) → FollowsParts (S.facts s) (S.means s (H.state h)) }
     requires fit { IsFit (S.facts (store_of session.old)) (is_broken session.old) (moment_of session.old) }
     requires stands { IsTrue H.tells → (S.means (store_of session.old) (H.state host.old)).stands }
     ensures finished { IsTrue H.tells → IsTrue I.tells → (course : Course) (ordered : Bool)

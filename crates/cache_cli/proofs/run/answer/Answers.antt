@@ -18,7 +18,7 @@ returns-in-Ok-clause-answered g c = λ tells from course ordered line left talk 
     let reply = c.in-Ok-Some.reply in
     let does = c.in-Ok-Some.ensures.does tells from course ordered (line ∷ left) talk talking (ap asked_by asked) in
     let did = subst (λ (o : Option Reply). DoesBy o start course ordered (line ∷ left) talk c.args.command old mid) c.in-Ok-Some.field-0-is does.goes in
-    let hand = reply_in_hand start course ordered left talk line c.args.command reply old mid talking asked did.0 did.2 did.1 in
+    let hand = reply_in_hand start course ordered left talk line c.args.command reply old mid talking asked did.0 did.2 did.1 did.3 in
     answered_ok start course ordered left talk line (replies reply) old mid now talking did.2 c.goes_on.result c.goes_on.ensures
     (c.in-Ok.ensures.told tells from course ordered left (with_answer talk line (replies reply)) hand)
 
@@ -31,7 +31,7 @@ returns-in-Ok-Some-clause-answered g c = λ tells from course ordered line left 
     let reply = c.in-Ok-Some.reply in
     let does = c.in-Ok-Some.ensures.does tells from course ordered (line ∷ left) talk talking (ap asked_by asked) in
     let did = subst (λ (o : Option Reply). DoesBy o start course ordered (line ∷ left) talk c.args.command old mid) c.in-Ok-Some.field-0-is does.goes in
-    let hand = reply_in_hand start course ordered left talk line c.args.command reply old mid talking asked did.0 did.2 did.1 in
+    let hand = reply_in_hand start course ordered left talk line c.args.command reply old mid talking asked did.0 did.2 did.1 did.3 in
     answered_err start course ordered left talk line (replies reply) old mid now talking did.2 c.in-Err-say_reply.status
     (c.in-Err-say_reply.ensures.told tells from course ordered left (with_answer talk line (replies reply)) hand)
 

@@ -14,7 +14,7 @@ returns-in-Ok-Some-clause-ended g c = λ tells from course ordered talk talking.
     let now = view_by g.S.Keyed.facts g.S.Keyed.means c.do_command.new.session (g.H.Host.state c.say_reply.new.host) in
     let does = c.in-Ok-Some.ensures.does tells from course ordered [] talk talking refl in
     let did = subst (λ (o : Option Reply). DoesBy o start course ordered [] talk Stop old mid) c.in-Ok-Some.field-0-is does.goes in
-    let hand = end_in_hand start course ordered talk c.in-Ok-Some.reply old mid talking did.0 did.2 did.1 in
+    let hand = end_in_hand start course ordered talk c.in-Ok-Some.reply old mid talking did.0 did.2 did.1 did.3 in
     closed start course ordered talk old mid now c.say_reply.result talking did.2 (c.say_reply.ensures.told tells from course ordered [] (with_end talk) hand)
 
 pub returns-in-Ok-None-clause-ended : goal.returns-in-Ok-None-clause-ended

@@ -22,7 +22,7 @@ returns-in-Ok-clause-does g c = λ tells from course ordered left talk talking h
     let ensures = c.in-Ok.ensures in
     let turn = ensures.turns tells [] (plain_of talk) talking.0.moment talking.0.standing.shows in
     let unspoilt = ensures.goes.unspoilt in
-    does_ok start course ordered left talk old new c.args.command spoilt talking hand ensures.goes.same c.in-Ok.reply c.requires.built unspoilt
+    does_ok start course ordered left talk old new c.args.command spoilt talking hand ensures.goes.same c.in-Ok.reply c.requires.built (c.requires.follows (store_of session) c.args.host.now) unspoilt
     (g.met.S.ReadStore.holds_now (store_of after) c.turn.new.host tells (second_false (is_broken after) (g.S.Keyed.facts (store_of after)).spoilt unspoilt) (ensures.stands tells unspoilt))
     ensures.goes.goes turn
 
@@ -40,7 +40,7 @@ returns-then-is_refusal-clause-does g c = λ tells from course ordered left talk
     let turn = ensures.turns tells [] (plain_of talk) talking.0.moment talking.0.standing.shows in
     let turn_memory = subst (λ (x : StoreFault). Turns [] (plain_of talk) c.args.command old.facts new.facts spoilt old.store new.store a b (Err x)) c.in-Err-Memory.field-0-is turn in
     let is = sym c.if-is_refusal.true ∙ c.is_refusal.ensures in
-    does_refused start course ordered left talk old new c.args.command spoilt talking hand ensures.goes.same (unspoilt_of c.may_be_refused-refusable.result spoilt is)
+    does_refused start course ordered left talk old new c.args.command spoilt talking hand ensures.goes.same (c.requires.follows (store_of session) c.args.host.now) (unspoilt_of c.may_be_refused-refusable.result spoilt is)
     (sym c.may_be_refused-refusable.ensures ∙ first_true c.may_be_refused-refusable.result _ is) ensures.goes.stays turn_memory
 
 pub returns-else-is_refusal-clause-does : goal.returns-else-is_refusal-clause-does

@@ -4,12 +4,20 @@ use Rattle.cache_model.specs.Lines.{lines_of}
 use Rattle.store_trait.specs.Meaning.{Numbers}
 use Rattle.cache_session.specs.Turns.{store_of}
 use Rattle.cache_cli.specs.Serving.{course_by}
-use Rattle.cache_cli.proofs.Serving.{still_then, started_same, opened_by, begins, sequence_le, file_le, later_of, later_fits, serves_whole, serves_early, serves_damage, index_spent, store_in_range}
+use Rattle.cache_cli.proofs.Serving.{still_then, started_same, opened_by, begins, sequence_le, file_le, later_of, later_fits, serves_whole, serves_early, serves_damage, index_spent, store_in_range, store_steps}
 use Rattle.cache_cli.proofs.Same.{damage_same}
 use Rattle.cache_cli.proofs.serve.serve_store.Goals as goal
 
 pub start-requires-clause-settings : goal.start-requires-clause-settings
 start-requires-clause-settings g c = store_in_range c.args.settings.now c.requires.range
+
+pub run_store-ran-requires-clause-follows : goal.run_store-ran-requires-clause-follows
+run_store-ran-requires-clause-follows g c = λ store host. record {
+  moves = λ change a b moves. moves;
+  empties = λ a b empties. empties;
+  room = λ a b room. room;
+  steps = λ kind turned a b steps. store_steps kind turned a b steps;
+}
 
 pub run_store-ran-requires-clause-ready : goal.run_store-ran-requires-clause-ready
 run_store-ran-requires-clause-ready g c = record {
