@@ -71,6 +71,24 @@ no-newer-when one other true true p q h = inr (eq-from-test _ _ p, inr (eq-from-
 pub newer-false : (one other : Newest) → is_newer one other ≡ false → IsNoNewer (rank one) (rank other)
 newer-false one other h = no-newer-when one other _ _ refl refl h
 
+-- one with a greater number is newer
+newer-later : (one other : Newest) → other.seq < one.seq → is_newer one other ≡ true
+newer-later one other less = by-test (is_newer one other) refl
+  where
+    by-test : (b : Bool) → is_newer one other ≡ b → b ≡ true
+    by-test true is = refl
+    by-test false is = absurd (⊎_elim (λ lt. omega (arith, lt, less)) (λ eq. omega (arith, eq.0, less)) (newer-false one other is))
+
+-- whether one is passed over, by whether it is the latest of all and whether it is covered
+
+pub passed-over : (is_latest covered result : Bool) → (is_latest ≡ true → result ≡ false) → (is_latest ≡ false → result ≡ covered) → result ≡ true → covered ≡ true
+passed-over true covered result latest other is = let none : false ≡ true = sym (latest refl) ∙ is in cc
+passed-over false covered result latest other is = sym (other refl) ∙ is
+
+pub not-passed : (is_latest covered result : Bool) → (is_latest ≡ true → covered ≡ false) → (is_latest ≡ false → result ≡ covered) → result ≡ false → covered ≡ false
+not-passed true covered result older other is = older refl
+not-passed false covered result older other is = sym (other refl) ∙ is
+
 -- tests of keys
 
 pub same-key : (a b : List ℕ) → bytes_eq a b ≡ true → a ≡ b
@@ -304,20 +322,34 @@ pub ok-then : {T E : Type 0} (answer : Result T E) (P Q : Type 0) → OnOk answe
 ok-then (Ok value) P Q is goes = goes is
 ok-then (Err fault) P Q is goes = tt
 
+-- the latest of all is covered by none
+latest-uncovered : (table : Table) (counted : List Counted) (key : List ℕ) (newest : Newest) (found : Option Newest)
+    → StandsForItems table counted → IsNewestOf counted key found → table.next ≤ newest.seq → is_covered found newest ≡ false
+latest-uncovered table counted key newest None stands is late = refl
+latest-uncovered table counted key newest (Some kept) stands is late =
+    let below = stands.above (record { number = kept.file; at = kept.at; item = is.item }) key is.among is.of_key in
+    ap not (newer-later newest kept (omega (arith, below, is.seq, late)))
+
 -- a record is counted, and then noted
-pub takes-record : {T E : Type 0} (answer : Result T E) (table mid new : Table) (counted : List Counted) (one : Counted) (key : List ℕ) (newest : Newest)
+pub takes-record : {T E : Type 0} (answer : Result T E) (table mid new : Table) (counted : List Counted) (one : Counted) (key : List ℕ) (newest : Newest) (is_latest : Bool)
     → StandsForItems table counted
+    → (is_latest ≡ true → table.next ≤ newest.seq)
     → IsRecordOf newest key one
     → mid.records ≡ table.records
     → mid.mark ≡ table.mark
     → mid.next ≡ max table.next (sequence_of one.item + 1)
     → new.mark ≡ mid.mark
     → new.next ≡ mid.next
-    → OnOk answer (Notes mid.records.entries new.records.entries key newest)
+    → ((is_latest ≡ true → is_covered (kept_of mid.records.entries key) newest ≡ false) → OnOk answer (Notes mid.records.entries new.records.entries key newest))
     → OnOk answer (StandsForItems new (counted ++ one ∷ []))
-takes-record answer table mid new counted one key newest stands is records mark next same_mark same_next noted_ok =
-    ok-then answer _ _ noted_ok
+takes-record answer table mid new counted one key newest is_latest stands late is records mark next same_mark same_next noted_ok =
+    ok-then answer _ _ (noted_ok older)
     (λ items. stands-record table new counted one key newest stands is
     (subst (λ (r : BTreeMap (List ℕ) Newest). Notes r.entries new.records.entries key newest) records items)
     (same_mark ∙ mark)
     (same_next ∙ next))
+  where
+    older : is_latest ≡ true → is_covered (kept_of mid.records.entries key) newest ≡ false
+    older latest =
+        subst (λ (r : BTreeMap (List ℕ) Newest). is_covered (kept_of r.entries key) newest ≡ false) (sym records)
+        (latest-uncovered table counted key newest _ stands (stands.newest key) (late latest))

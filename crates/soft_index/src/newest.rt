@@ -74,14 +74,30 @@ impl Table {
         }
     }
 
-    // Keeps a record of a key, where none that is as new is kept.
-    fn note(&mut self, key: Key, newest: Newest) -> Result<(), ModelFault>
-        ensures noted { OnOk result (Notes self.old.records.entries self.new.records.entries key newest) }
+    // Whether this sequence number is above those of all records that were taken.
+    fn is_latest(&self, seq: u64) -> bool
+        ensures { result ≡ true → self.now.next ≤ seq }
+    {
+        self.next <= seq
+    }
+
+    // Whether a record of the key that is as new is kept. For the latest of all none is looked for.
+    fn is_passed_over(&self, key: &Key, newest: &Newest, is_latest: bool) -> bool
+        ensures latest { is_latest ≡ true → result ≡ false }
+        ensures other { is_latest ≡ false → result ≡ is_covered (kept_of self.now.records.entries key.now) newest.now }
+    {
+        !is_latest && self.is_covered(key, newest)
+    }
+
+    // Keeps a record of a key, where none that is as new is kept. The latest of all is newer than any.
+    fn note(&mut self, key: Key, newest: Newest, is_latest: bool) -> Result<(), ModelFault>
+        ensures noted { (is_latest ≡ true → is_covered (kept_of self.old.records.entries key) newest ≡ false)
+            → OnOk result (Notes self.old.records.entries self.new.records.entries key newest) }
         ensures mark { self.new.mark ≡ self.old.mark }
         ensures next { self.new.next ≡ self.old.next }
         ensures memory { IfErr result (λ fault. fault ≡ Memory) }
     {
-        if self.is_covered(&key, &newest) {
+        if self.is_passed_over(&key, &newest, is_latest) {
             return Ok(());
         }
         match self.records.insert(key, newest) {
@@ -116,6 +132,7 @@ impl Table {
                 key,
                 value,
             } => {
+                let is_latest = self.is_latest(seq);
                 self.count(seq);
                 let entry = Some(Entry { value, until });
                 self.note(
@@ -126,9 +143,11 @@ impl Table {
                         at,
                         entry,
                     },
+                    is_latest,
                 )
             }
             OwnItem::Removal { seq, key } => {
+                let is_latest = self.is_latest(seq);
                 self.count(seq);
                 self.note(
                     key,
@@ -138,6 +157,7 @@ impl Table {
                         at,
                         entry: None,
                     },
+                    is_latest,
                 )
             }
             OwnItem::End { moment } => {
