@@ -3,13 +3,16 @@
 import pathlib
 import subprocess
 import sys
+import tempfile
 
 TOP = pathlib.Path(__file__).resolve().parent.parent
 
 
 def built_program():
-    """The proved program itself, which the launcher builds where it isn't built."""
-    subprocess.run([TOP / "cache"], stdin=subprocess.DEVNULL)
+    """The proved program itself, which the launcher builds where it isn't built, for a run without lines."""
+    with tempfile.TemporaryDirectory(prefix="cache-bench-") as folder:
+        words = [TOP / "cache", folder, "--at", "0"]
+        subprocess.run(words, stdin=subprocess.DEVNULL, stdout=subprocess.DEVNULL)
     program = TOP / "crates/cache_cli/out/cache_cli"
     if not program.exists():
         sys.exit("bench: the program was not built")

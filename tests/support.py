@@ -47,8 +47,11 @@ def equal(got, wanted, what):
 
 
 def build():
-    """Builds the program where it isn't built. What that prints goes to standard error."""
-    if subprocess.run([PROGRAM], stdin=subprocess.DEVNULL).returncode != USAGE:
+    """Builds the program where it isn't built, by a run without lines. What that prints goes to standard error."""
+    with fresh_folder() as folder:
+        words = [PROGRAM, folder, "--at", "0"]
+        ran = subprocess.run(words, stdin=subprocess.DEVNULL, stdout=subprocess.DEVNULL)
+    if ran.returncode != DONE:
         raise SystemExit("tests/run: the program was not built")
 
 

@@ -1,7 +1,7 @@
 """The words that the program takes, and the folders that it takes."""
 
 from support import DISK_FAILED, DONE, FIRST_FILE, USAGE
-from support import check_names, check_run, check_words, equal
+from support import check_names, check_run, check_words, equal, run
 
 PUT = b"put a b\n"
 
@@ -89,9 +89,8 @@ STRAY_NAMES = [
 
 
 def test_no_folder(folder):
-    """Without a first word the status is 2, and nothing is said on either stream."""
-    check_run([], PUT, USAGE, [])
-    check_run([], PUT, USAGE, [], cwd=folder)
+    """Without a first word the status is 2, and nothing is said on standard output."""
+    equal(run([], PUT, cwd=folder)[:2], (USAGE, b""), "status and output")
     check_names(folder, [])
 
 
