@@ -15,3 +15,4 @@ mod Same
 mod Serving
 mod Standing
 mod Stepping
+mod Unset

@@ -1,4 +1,4 @@
--- Files that are no data file, among names and among files.
+-- Index and base files, among names and among files.
 use Rattle.std.proofs.Common.{◌≡◌, ⊎_elim, Bool, true, false, List, [], ◌∷◌, Contains, IsSome, refl, sym, ap, ◌∙◌}
 use Rattle.std.specs.Prelude.{◌↔◌, ◌||◌}
 use Rattle.std.specs.List.{list_any}
@@ -33,7 +33,7 @@ true_any test (first ∷ xs) x among passes = by_test (test first) refl (λ late
         (λ later. rest later)
         (among-cases first x xs among)
 
--- just the names of the files that are there tell whether one of them is no data file
+-- just the names of the files that are there tell whether one of them is an index or a base file
 pub foreign_seen : (files : Image) (names : List FileName) → ((name : FileName) → (Contains names name ↔ IsSome (file_in files name)))
     → ((has_foreign names ≡ true) ↔ IsForeign files)
 foreign_seen files names each = (

@@ -1,5 +1,5 @@
 -- The causes of what a run ends with, by the counts of the host and of the script's source.
-use Rattle.std.specs.Prelude.{◌≡◌, ℕ, Result, MatchResult}
+use Rattle.std.specs.Prelude.{◌≡◌, ◌⊎◌, ℕ, Result, MatchResult}
 use Rattle.cache_model.specs.declared.replies.Status.{Status}
 use Rattle.cache_model.specs.declared.replies.Status.TheVariants as status
 use Rattle.cache_disk.specs.State.{HostState, Rose}
@@ -9,7 +9,7 @@ abbrev pub Unfaulted : HostState → HostState → Type 0
 Unfaulted from to = (to.disk_faults ≡ from.disk_faults) × (to.say_faults ≡ from.say_faults)
 
 -- A failure is answered only where its count rose, and then no other count did; no other status is answered where one
--- rose.
+-- rose. By settings that are handed in, no run ends with Settings.
 abbrev pub CauseOf : Status → HostState → HostState → ℕ → ℕ → Type 0
 CauseOf status.DiskFailed from to faults_from faults_to = Rose from.disk_faults to.disk_faults × (to.say_faults ≡ from.say_faults) × (faults_to ≡ faults_from)
 CauseOf status.SayFailed from to faults_from faults_to = Rose from.say_faults to.say_faults × (to.disk_faults ≡ from.disk_faults) × (faults_to ≡ faults_from)
@@ -21,6 +21,10 @@ CauseOf status.Damaged from to faults_from faults_to = Unfaulted from to × (fau
 CauseOf status.NoMemory from to faults_from faults_to = Unfaulted from to × (faults_to ≡ faults_from)
 CauseOf status.Spent from to faults_from faults_to = Unfaulted from to × (faults_to ≡ faults_from)
 CauseOf status.LinesSpent from to faults_from faults_to = Unfaulted from to × (faults_to ≡ faults_from)
+
+-- the same of a run that reads its settings itself: with wrong settings no count rose
+abbrev pub WholeCauseOf : Status → HostState → HostState → ℕ → ℕ → Type 0
+WholeCauseOf ended from to faults_from faults_to = ((ended ≡ status.Settings) × Unfaulted from to × (faults_to ≡ faults_from)) ⊎ CauseOf ended from to faults_from faults_to
 
 -- what a call of a session or of the output may end a run with, and its cause
 abbrev pub HostCauseOf : Status → HostState → HostState → Type 0

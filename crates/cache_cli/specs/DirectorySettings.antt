@@ -9,6 +9,7 @@ use Rattle.cache_model.specs.Files.{Image, file_in}
 use Rattle.cache_model.specs.Settings.{default_settings}
 use Rattle.cache_disk.specs.State.{HostState, Rose, Stands}
 use Rattle.cache_cli.specs.Causes.{Unfaulted}
+use Rattle.cache_cli.specs.Ends.{EndsUnset}
 use Rattle.cache_cli.specs.SettingsFile.{IsSettingsFile}
 
 -- the name of the settings file
@@ -34,6 +35,13 @@ SettingsCauseOf ended from to = ⊥
 -- settings that were read raised no count, and what ends the run has its cause
 abbrev pub HasSettingsCause : {T : Type 0} → HostState → HostState → Result T Status → Type 0
 HasSettingsCause from to result = MatchResult result (λ _. Unfaulted from to) (λ ended. SettingsCauseOf ended from to)
+
+-- How a run with good words ends by the settings of its directory.
+pub record EndsBySettings (ended : Status) (from to : HostState) : Type 0 where
+  -- where the directory has none, nothing was said or changed
+  pub without : ((settings : Settings) → HasSettings from.files settings → ⊥) → EndsUnset ended × Stands from to
+  -- Settings is answered only there
+  pub only : ended ≡ status.Settings → (settings : Settings) → HasSettings from.files settings → ⊥
 
 -- Nothing changed, and the first bytes of a buffer are those of a file.
 pub record IsFilled (from now : HostState) (file buffer : List ℕ) (done : ℕ) : Type 0 where

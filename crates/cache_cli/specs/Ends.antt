@@ -102,7 +102,7 @@ pub record EndsDamaged (course : Course) (to : HostState) : Type 0 where
 abbrev pub IsUnused : Course → HostState → Type 0
 IsUnused course to = IsSilent course to × SameFiles course.files to.files
 
--- What a run with good words said, by its status.
+-- What a run with good words and with settings said, by its status. It never ends with Settings then.
 abbrev pub Ends : Status → Course → HostState → Type 0
 Ends status.Done course to = EndsWhole course to
 Ends status.Usage course to = IsForeign course.files × IsUnused course to
@@ -115,9 +115,13 @@ Ends status.NoMemory course to = IsCutShort course to
 Ends status.Spent course to = EndsSpent course to
 Ends status.LinesSpent course to = EndsTaken course to
 
--- what a run ends with where the directory has other files than data files
+-- what a run ends with where the directory has an index or a base file
 abbrev pub EndsForeign : Status → Type 0
 EndsForeign ended = (ended ≡ status.Usage) ⊎ ((ended ≡ status.DiskFailed) ⊎ (ended ≡ status.NoMemory))
+
+-- what a run ends with where its directory has no settings: what is in the settings file is none, or it can't be read
+abbrev pub EndsUnset : Status → Type 0
+EndsUnset ended = (ended ≡ status.Settings) ⊎ ((ended ≡ status.DiskFailed) ⊎ (ended ≡ status.NoMemory))
 
 -- what a run ends with where a data file is damaged
 abbrev pub EndsRefused : Status → Type 0

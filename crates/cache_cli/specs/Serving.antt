@@ -1,5 +1,5 @@
 -- What the run of the whole program is about.
-use Rattle.std.specs.Prelude.{◌≡◌, ℕ, true, false, List}
+use Rattle.std.specs.Prelude.{◌≡◌, ℕ, false, List}
 use Rattle.cache_model.specs.declared.faults.Damage.{Damage}
 use Rattle.cache_model.specs.declared.replies.Status.{Status}
 use Rattle.cache_model.specs.declared.replies.Status.TheVariants as status
@@ -19,10 +19,6 @@ use Rattle.cache_cli.specs.Talk.{Course, HoldsThroughout, HoldsTogether}
 -- a run by these settings that begins on a host, from a moment on, with these lines
 abbrev pub course_by : Settings → HostState → ℕ → List (List ℕ) → Course
 course_by settings from given lines = record { files = from.files; said = from.said from.turn; given = given; lines = lines; synced = settings.sync_writes }
-
--- the same by the default settings, so that each change is synced before it is answered
-abbrev pub course_of : HostState → ℕ → List (List ℕ) → Course
-course_of from given lines = record { files = from.files; said = from.said from.turn; given = given; lines = lines; synced = true }
 
 -- where no image that might be left at the beginning is damaged, each image since holds
 abbrev pub HoldsFrom : HostState → HostState → Course → Type 0

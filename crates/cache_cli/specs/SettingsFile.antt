@@ -105,19 +105,3 @@ pub record IsSettingsFile (bytes : List ℕ) (settings : Settings) : Type 0 wher
   pub table : Members
   pub document : parse_document bytes ≡ Some table
   pub gives : GivesSettings default_settings table settings
-
--- from the first number to the last one
-abbrev pub IsFrom : ℕ → ℕ → ℕ → Type 0
-IsFrom first last number = (first ≤ number) × (number ≤ last)
-
--- Each setting is in its range.
-pub record AreInRange (settings : Settings) : Type 0 where
-  pub file_size : IsFrom 4096 16777216 settings.file_size
-  pub compact_below : IsFrom 1 99 settings.compact_below
-  pub queue : IsFrom 1 65536 settings.queue
-  pub nodes : IsFrom 8 65536 settings.nodes
-  pub hash_bits : settings.hash_bits ≤ 32
-  pub behind_limit : IsFrom 1 65536 settings.behind_limit
-  pub max_entries : IsFrom 1 1000000 settings.max_entries
-  pub pump : settings.pump ≤ 1000
-  pub publish : length settings.publish ≤ 1024

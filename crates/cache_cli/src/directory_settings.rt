@@ -4,9 +4,9 @@ ghost use Rattle.cache_model.specs.declared.settings.Settings.{Settings};
 ghost use Rattle.cache_model.specs.declared.replies.Status.TheVariants as status;
 ghost use Rattle.cache_model.specs.Files.{file_in, bytes_in};
 ghost use Rattle.cache_disk.specs.State.{Stands};
-ghost use Rattle.cache_model.specs.Settings.{default_settings};
+ghost use Rattle.cache_model.specs.Settings.{default_settings, AreInRange};
 ghost use Rattle.data_file.specs.Windows.{AsksFor};
-ghost use Rattle.cache_cli.specs.SettingsFile.{IsSettingsFile, AreInRange};
+ghost use Rattle.cache_cli.specs.SettingsFile.{IsSettingsFile};
 ghost use Rattle.cache_cli.specs.DirectorySettings.{settings_name, HasSettings, HasSettingsCause, IsFilled};
 
 use crate::settings_file::{FILE_LIMIT, SettingsFault, read_settings};

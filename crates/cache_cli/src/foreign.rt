@@ -8,24 +8,24 @@ ghost use Rattle.cache_cli.specs.Foreign.{is_foreign_kind, has_foreign, IsForeig
 use cache_disk::{Host, HostFault};
 use cache_model::{FileKind, FileName, Status};
 
-// Whether a file of this kind is no data file.
+// Whether a file of this kind is an index or a base file.
 fn is_foreign_kind(kind: FileKind) -> bool
     ensures { result ≡ is_foreign_kind kind }
 {
     match kind {
-        FileKind::Log => false,
-        FileKind::Rules | FileKind::Tree | FileKind::Base => true,
+        FileKind::Rules | FileKind::Log => false,
+        FileKind::Tree | FileKind::Base => true,
     }
 }
 
-// Whether a file among these is no data file.
+// Whether an index or a base file is among these.
 fn has_foreign(names: &[FileName]) -> bool
     ensures { result ≡ has_foreign names.now }
 {
     names.iter().any(|name| is_foreign_kind(name.kind))
 }
 
-/// Whether the directory holds a file that is no data file. Nothing is changed.
+/// Whether the directory holds an index or a base file. Nothing is changed.
 pub fn is_foreign<H: Host>(host: &mut H) -> Result<bool, Status>
     ensures stands { IsTrue H.tells → Stands (H.state host.old) (H.state host.new) }
     ensures foreign { IsTrue H.tells → IfOk result (λ foreign. (foreign ≡ true ↔ IsForeign (H.state host.old).files)) }

@@ -4,22 +4,24 @@ ghost use Rattle.cache_model.specs.Lines.{lines_of};
 ghost use Rattle.cache_model.specs.Images.{IsSound};
 ghost use Rattle.cache_model.specs.Settings.{AreInRange};
 ghost use Rattle.cache_model.specs.declared.replies.Status.TheVariants as status;
+ghost use Rattle.cache_model.specs.declared.settings.Settings.{Settings};
 ghost use Rattle.cache_disk.specs.State.{Stands};
-ghost use Rattle.cache_disk.specs.Calls.{AllLeft};
 ghost use Rattle.store_trait.specs.Keeping.{Leaves};
 ghost use Rattle.store_trait.specs.Calls.{IsReady};
 ghost use Rattle.soft_index.specs.Store.{owns_file};
 ghost use Rattle.cache_session.specs.Turns.{store_of, moment_of, is_broken, IsFit};
-ghost use Rattle.cache_cli.specs.Causes.{CauseOf, HostCauseOf, HasHostCause, HasCause};
+ghost use Rattle.cache_cli.specs.Causes.{CauseOf, WholeCauseOf, HostCauseOf, HasHostCause, HasCause};
 ghost use Rattle.cache_cli.specs.Foreign.{IsForeign};
-ghost use Rattle.cache_cli.specs.Talk.{Course, HoldsThroughout, HoldsTogether};
+ghost use Rattle.cache_cli.specs.DirectorySettings.{HasSettings, EndsBySettings};
+ghost use Rattle.cache_cli.specs.Talk.{Course};
 ghost use Rattle.cache_cli.specs.Parts.{FollowsParts};
 ghost use Rattle.cache_cli.specs.Run.{view, view_by};
 ghost use Rattle.cache_cli.specs.Opening.{Begins, Finished};
-ghost use Rattle.cache_cli.specs.Ends.{IsUnused, Ends, EndsForeign, EndsRefused};
-ghost use Rattle.cache_cli.specs.Serving.{course_of, course_by, Serves};
+ghost use Rattle.cache_cli.specs.Ends.{IsUnused, EndsForeign, EndsRefused};
+ghost use Rattle.cache_cli.specs.Serving.{course_by, Serves};
 ghost use Rattle.cache_cli.specs.Words.{words_moment};
 
+use crate::directory_settings::settings_in;
 use crate::foreign::is_foreign;
 use crate::run::answer_script;
 use crate::saying::{say_answer, tell_damage};
@@ -33,6 +35,8 @@ use std::alloc::Global;
 use store_trait::Store;
 
 /// Runs the store on a script: the whole program, over any host and source. `words` are those behind the directory.
+///
+/// The settings are those of the directory's settings file, and the defaults where it has none.
 pub fn serve<H: Host, I: Source>(
     alloc: Global,
     words: &[String],
@@ -41,38 +45,37 @@ pub fn serve<H: Host, I: Source>(
 ) -> Status
     // Other words than `--at` and a moment.
     ensures usage { words_moment (map string_bytes words.now) ≡ None
-        → (result ≡ status.Usage) × (IsTrue H.tells → IsUnused (course_of (H.state host.old) 0 []) (H.state host.new)) }
-    // With good words: a directory with other files than data files.
-    ensures foreign { IsTrue H.tells → IsForeign (H.state host.old).files → (given : ℕ) → words_moment (map string_bytes words.now) ≡ Some given → EndsForeign result }
-    // With good words: a directory that is damaged is refused.
+        → (result ≡ status.Usage) × (IsTrue H.tells → Stands (H.state host.old) (H.state host.new)) }
+    // With good words: a settings file that gives no settings.
+    ensures settings { IsTrue H.tells → (given : ℕ) → words_moment (map string_bytes words.now) ≡ Some given
+        → EndsBySettings result (H.state host.old) (H.state host.new) }
+    // With good words and settings: a directory with an index or a base file.
+    ensures foreign { IsTrue H.tells → IsForeign (H.state host.old).files → (given : ℕ) → words_moment (map string_bytes words.now) ≡ Some given
+        → (settings : Settings) → HasSettings (H.state host.old).files settings → EndsForeign result }
+    // With good words and settings: a directory that is damaged is refused.
     ensures refused { IsTrue H.tells → (IsForeign (H.state host.old).files → ⊥) → (IsSound (H.state host.old).files → ⊥)
-        → (given : ℕ) → words_moment (map string_bytes words.now) ≡ Some given → EndsRefused result }
-    // With good words: what is said, by the status.
-    ensures ends { IsTrue H.tells → IsTrue I.tells → (given : ℕ) → words_moment (map string_bytes words.now) ≡ Some given
-        → Ends result (course_of (H.state host.old) given (lines_of (I.rest script.old))) (H.state host.new) }
+        → (given : ℕ) → words_moment (map string_bytes words.now) ≡ Some given
+        → (settings : Settings) → HasSettings (H.state host.old).files settings → EndsRefused result }
+    // With good words and settings: what is said, by the status, and what a crash may leave at each turn.
+    ensures serves { IsTrue H.tells → IsTrue I.tells → (given : ℕ) → words_moment (map string_bytes words.now) ≡ Some given
+        → (settings : Settings) → HasSettings (H.state host.old).files settings
+        → Serves result (H.state host.old) (H.state host.new) (course_by settings (H.state host.old) given (lines_of (I.rest script.old))) }
     // Files that aren't the store's are left alone, as they read and in what a crash may leave.
     ensures others { IsTrue H.tells → IsTrue I.tells → Leaves owns_file false (H.state host.old) (H.state host.new) }
-    // What a crash may leave at each turn, where nothing that it might have left before is damaged.
-    ensures crash { IsTrue H.tells → IsTrue I.tells → (given : ℕ) → words_moment (map string_bytes words.now) ≡ Some given
-        → AllLeft (H.state host.old) (λ image. IsSound image)
-        → HoldsThroughout (H.state host.old) (H.state host.new) (course_of (H.state host.old) given (lines_of (I.rest script.old))) }
-    // The same of all keys together: they read as after one number of all changes.
-    ensures cut { IsTrue H.tells → IsTrue I.tells → (given : ℕ) → words_moment (map string_bytes words.now) ≡ Some given
-        → AllLeft (H.state host.old) (λ image. IsSound image)
-        → HoldsTogether (H.state host.old) (H.state host.new) (course_of (H.state host.old) given (lines_of (I.rest script.old))) }
     // A failure only where its count rose, and no other answer where one did.
-    ensures cause { CauseOf result (H.state host.old) (H.state host.new) (I.faults script.old) (I.faults script.new) }
+    ensures cause { WholeCauseOf result (H.state host.old) (H.state host.new) (I.faults script.old) (I.faults script.new) }
 {
     match moment_of(words) {
-        Some(_) => match Settings::defaults(alloc) {
+        Some(_) => match settings_in(alloc, host) {
             Ok(settings) => serve_with(alloc, words, &settings, host, script),
-            Err(_) => Status::NoMemory,
+            Err(status) => status,
         },
         None => Status::Usage,
     }
 }
 
-/// The same by settings that are handed in: `file_size`, `sync_writes` and `hash_bits` are in force.
+/// The same by settings that are handed in, whatever the settings file says: `file_size`, `sync_writes` and `hash_bits`
+/// are in force. It never ends with the status Settings.
 ///
 /// Where changes aren't synced at once, only `sync` and `stop` promise them: a crash may leave a key as after any prefix
 /// of its changes from the last such answer on.
@@ -87,14 +90,16 @@ pub fn serve_with<H: Host, I: Source>(
     // Other words than `--at` and a moment.
     ensures usage { words_moment (map string_bytes words.now) ≡ None
         → (result ≡ status.Usage) × (IsTrue H.tells → IsUnused (course_by settings.now (H.state host.old) 0 []) (H.state host.new)) }
-    // With good words: a directory with other files than data files.
+    // With good words: a directory with an index or a base file.
     ensures foreign { IsTrue H.tells → IsForeign (H.state host.old).files → (given : ℕ) → words_moment (map string_bytes words.now) ≡ Some given → EndsForeign result }
     // With good words: a directory that is damaged is refused.
     ensures refused { IsTrue H.tells → (IsForeign (H.state host.old).files → ⊥) → (IsSound (H.state host.old).files → ⊥)
         → (given : ℕ) → words_moment (map string_bytes words.now) ≡ Some given → EndsRefused result }
-    // With good words: what is said, by the status, and what a crash may leave at each turn.
+    // With good words: what is said, by the status, and what a crash may leave at each turn. It is told from a host that
+    // the run begins on, or an earlier one since which nothing changed.
     ensures serves { IsTrue H.tells → IsTrue I.tells → (given : ℕ) → words_moment (map string_bytes words.now) ≡ Some given
-        → Serves result (H.state host.old) (H.state host.new) (course_by settings.now (H.state host.old) given (lines_of (I.rest script.old))) }
+        → (from : H) → Stands (H.state from) (H.state host.old)
+        → Serves result (H.state from) (H.state host.new) (course_by settings.now (H.state from) given (lines_of (I.rest script.old))) }
     // Files that aren't the store's are left alone, as they read and in what a crash may leave.
     ensures others { IsTrue H.tells → IsTrue I.tells → Leaves owns_file false (H.state host.old) (H.state host.new) }
     // A failure only where its count rose, and no other answer where one did.
@@ -113,7 +118,7 @@ fn start_moment(given: u64, mark: u64) -> u64
     if given < mark { mark } else { given }
 }
 
-// Runs the store on a script from a moment on, where the directory holds data files alone.
+// Runs the store on a script from a moment on, where the directory has no index and no base file.
 fn serve_from<H: Host, I: Source>(
     alloc: Global,
     given: u64,
@@ -125,8 +130,8 @@ fn serve_from<H: Host, I: Source>(
     requires range { AreInRange settings.now }
     ensures foreign { IsTrue H.tells → IsForeign (H.state host.old).files → EndsForeign result }
     ensures refused { IsTrue H.tells → (IsForeign (H.state host.old).files → ⊥) → (IsSound (H.state host.old).files → ⊥) → EndsRefused result }
-    ensures serves { IsTrue H.tells → IsTrue I.tells
-        → Serves result (H.state host.old) (H.state host.new) (course_by settings.now (H.state host.old) given (lines_of (I.rest script.old))) }
+    ensures serves { IsTrue H.tells → IsTrue I.tells → (from : H) → Stands (H.state from) (H.state host.old)
+        → Serves result (H.state from) (H.state host.new) (course_by settings.now (H.state from) given (lines_of (I.rest script.old))) }
     ensures cause { CauseOf result (H.state host.old) (H.state host.new) (I.faults script.old) (I.faults script.new) }
 {
     match is_foreign(host) {

@@ -3,10 +3,10 @@ ghost use Rattle.std.specs.Prelude.{◌≡◌, ◌↔◌, ◌≤◌, length, tru
 ghost use Rattle.std.specs.List.{list_any};
 ghost use Rattle.std.specs.Str.{bytes_eq};
 ghost use Rattle.cache_model.specs.declared.settings.Settings.{Settings};
-ghost use Rattle.cache_model.specs.Settings.{default_settings};
+ghost use Rattle.cache_model.specs.Settings.{default_settings, AreInRange};
 ghost use Rattle.toml.specs.View.{view, table_view};
 ghost use Rattle.toml.specs.Data.{get_member};
-ghost use Rattle.cache_cli.specs.SettingsFile.{whole, truth, string_up_to, beside, one_of, modes, activations, read_or, Gives, setting_names, has_only, GivesEach, AreInForce, GivesSettings, IsSettingsFile, AreInRange};
+ghost use Rattle.cache_cli.specs.SettingsFile.{whole, truth, string_up_to, beside, one_of, modes, activations, read_or, Gives, setting_names, has_only, GivesEach, AreInForce, GivesSettings, IsSettingsFile};
 ghost use Rattle.cache_cli.specs.declared.settings_file.SettingsFault.TheVariants.{Wrong};
 
 use cache_model::{Activation, Mode, Prefix, Settings};
