@@ -12,13 +12,14 @@ use Rattle.cache_disk.specs.State as disk
 use Rattle.cache_disk.specs.Calls.{OnFile, AllLeft}
 use Rattle.cache_disk.proofs.Runs.{Stands-left, Stands-moves, left_still}
 use Rattle.data_file.specs.declared.appender.Appender.{Appender}
-use Rattle.data_file.specs.Appending.{name_of, StandsFor}
+use Rattle.data_file.specs.Appending.{written, name_of, StandsFor}
+use Rattle.data_file.proofs.Frame.{stands_on as stands_on_file}
 use Rattle.data_file.proofs.Bytes.{written-none}
 use Rattle.append_log.specs.declared.log_files.LogFiles.{LogFiles}
 use Rattle.cache_model.specs.declared.replies.Turned.{Turned}
 use Rattle.cache_model.specs.declared.replies.Turned.TheVariants.{Done, Idle}
 use Rattle.append_log.specs.Calls.{IsNew, IsTurned}
-use Rattle.append_log.specs.Current.{IsLogOf, data_name, file_of, next_file, next_file_of, tail_by, makes_file, mark_of, is_unsealed, marked, IsFileOf, IsLogStanding}
+use Rattle.append_log.specs.Current.{IsNamed, IsLogOf, data_name, file_of, next_file, next_file_of, tail_by, makes_file, mark_of, is_unsealed, marked, IsFileOf, IsLogStanding}
 use Rattle.append_log.specs.Standing.{IsStanding, nothing_held, Closed, Held, Stands, IsClosedIn, IsGoneOr, AreClosedIn, AreBelow, RiseFrom, sealed_held, waits}
 use Rattle.append_log.proofs.Steps.{file_still, other_name, file_standing}
 
@@ -243,3 +244,52 @@ pub stands_on : {R : Type 0} (F T : LogFiles) (a b : HostState) (held : Held) (r
     → T.spoilt ≡ false → IsStanding T b
 stands_on F T a b held (Ok answer) stands ok still same sound = ok
 stands_on F T a b held (Err f) stands ok still same sound = (held, subst (λ (x : LogFiles). Stands x b held) (sym (same sound).1) (holds_still F F.spoilt a b held (still sound) stands))
+
+-- what is held stays after calls of others, which leave each data file of the store as it was
+beside_closed : (store : ℕ) (a b : HostState) (step : Image → Image → Type 0)
+    → ((n : ℕ) → file_in b.files (data_name store n) ≡ file_in a.files (data_name store n))
+    → Moves a b step
+    → ((n : ℕ) (d m : Image) → step d m → file_in m (data_name store n) ≡ file_in d (data_name store n))
+    → (files : List Closed) → AreClosedIn store a files → AreClosedIn store b files
+beside_closed store a b step same moves keeps [] all = tt
+beside_closed store a b step same moves keeps (one ∷ files) all = (
+  closed_on store a b step one (same one.number) moves (λ d m took. keeps one.number d m took) all.0,
+  beside_closed store a b step same moves keeps files all.1,
+)
+
+beside_current : (store : ℕ) (log : Option Appender) (file : ℕ) (a b : HostState) (frames : List Frame) (records : List Item) (step : Image → Image → Type 0) → IsNamed store log file
+    → ((n : ℕ) → file_in b.files (data_name store n) ≡ file_in a.files (data_name store n))
+    → Moves a b step
+    → ((n : ℕ) (d m : Image) → step d m → file_in m (data_name store n) ≡ file_in d (data_name store n))
+    → IsFileOf store log file a frames records → IsFileOf store log file b frames records
+beside_current store None file a b frames records step named same moves keeps is =
+    (is.0, is.1, left_still a b step (λ image. file_in image (data_name store file) ≡ None) moves is.2 (λ d m none took. keeps file d m took ∙ none))
+beside_current store (Some log) file a b frames records step named same moves keeps is =
+    stands_on_file log a frames records is b step
+    (subst (λ (name : FileName). file_in b.files name ≡ file_in a.files name) (sym named) (same file))
+    moves
+    (λ d m took. subst (λ (name : FileName). file_in m name ≡ file_in d name) (sym named) (keeps file d m took))
+
+pub holds_beside : (F : LogFiles) (a b : HostState) (held : Held) (step : Image → Image → Type 0) → IsNamed F.store F.log F.file
+    → ((n : ℕ) → file_in b.files (data_name F.store n) ≡ file_in a.files (data_name F.store n))
+    → Moves a b step
+    → ((n : ℕ) (d m : Image) → step d m → file_in m (data_name F.store n) ≡ file_in d (data_name F.store n))
+    → Stands F a held → Stands F b held
+holds_beside F a b held step named same moves keeps stands = record {
+  current = beside_current F.store F.log F.file a b held.frames held.records step named same moves keeps stands.current;
+  closed = beside_closed F.store a b step same moves keeps held.closed stands.closed;
+  below = stands.below;
+  rising = stands.rising;
+  beyond = λ n above. same n ∙ stands.beyond n above;
+  absent = λ n above. left_still a b step (λ image. file_in image (data_name F.store n) ≡ None) moves (stands.absent n above) (λ d m none took. keeps n d m took ∙ none);
+  pending = stands.pending;
+  rests = λ is.
+      left_still a b step (λ image. file_in image (file_of F) ≡ file_in b.files (file_of F)) moves
+      (λ image left. stands.rests is image left ∙ sym (same F.file))
+      (λ d m was took. keeps F.file d m took ∙ was);
+}
+
+-- where nothing waits the current file is its frames
+pub sealed_reads : (store : ℕ) (log : Option Appender) (file : ℕ) (b : HostState) (frames : List Frame) → IsNamed store log file → is_some log ≡ true → IsFileOf store log file b frames [] → file_in b.files (data_name store file) ≡ Some (written frames [])
+sealed_reads store None file b frames named there is = cc
+sealed_reads store (Some log) file b frames named there is = ap (λ (name : FileName). file_in b.files name) (sym named) ∙ is.reads

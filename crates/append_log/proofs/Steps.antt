@@ -81,14 +81,15 @@ on_current S a b frames more moves =
     weaker a b (OnFile (file_of S) (CountsFrames frames)) (OnFiles S false (CountsIf false frames more)) moves
     (λ d m left step. record { others = λ name apart behind. step.others name apart; stays = step.stays; file = step.file; behind = λ over. let no : false ≡ true = over in cc })
 
+-- the file behind the current one has another name
+pub before_name : (S : LogFiles) → is_name (file_behind S) (file_of S) ≡ false
+before_name S = other_name S.store (S.file + 1) S.file (λ is. omega (arith, is))
+
 module _ (S : LogFiles) (a : HostState) (frames more : List Frame)
     (none : AllLeft a (λ image. file_in image (file_behind S) ≡ None))
     (counts : AllLeft a (λ image. (bytes : List ℕ) → file_in image (file_of S) ≡ Some bytes → CountsFrames frames bytes)) where
   behind_name : is_name (file_of S) (file_behind S) ≡ false
   behind_name = other_name S.store S.file (S.file + 1) (λ is. omega (arith, is))
-
-  before_name : is_name (file_behind S) (file_of S) ≡ false
-  before_name = other_name S.store (S.file + 1) S.file (λ is. omega (arith, is))
 
   closed_step : (d m : Image) → a.left a.turn d → OnFile (file_of S) (CountsOneOf frames more) d m → OnFiles S true (CountsIf true frames more) d m
   closed_step d m left step = record {
@@ -109,14 +110,14 @@ module _ (S : LogFiles) (a : HostState) (frames more : List Frame)
       closed_step
       (λ c e m start first left step. record {
         others = λ name apart behind. step.others name (behind refl) ∙ first.others name apart;
-        stays = λ there. subst (λ (found : Option (List ℕ)). IsSome found) (sym (step.others (file_of S) before_name)) (first.stays there);
-        file = λ bytes there. first.file bytes (sym (step.others (file_of S) before_name) ∙ there);
+        stays = λ there. subst (λ (found : Option (List ℕ)). IsSome found) (sym (step.others (file_of S) (before_name S))) (first.stays there);
+        file = λ bytes there. first.file bytes (sym (step.others (file_of S) (before_name S)) ∙ there);
         behind = λ over. step.file;
       })
       (λ e m start left step. record {
         others = λ name apart behind. step.others name (behind refl);
-        stays = λ there. subst (λ (found : Option (List ℕ)). IsSome found) (sym (step.others (file_of S) before_name)) there;
-        file = λ bytes there. inl (counts e start bytes (sym (step.others (file_of S) before_name) ∙ there));
+        stays = λ there. subst (λ (found : Option (List ℕ)). IsSome found) (sym (step.others (file_of S) (before_name S))) there;
+        file = λ bytes there. inl (counts e start bytes (sym (step.others (file_of S) (before_name S)) ∙ there));
         behind = λ over. step.file;
       })
 

@@ -16,10 +16,10 @@ use Rattle.cache_model.specs.DataFiles.{Frame, CountsFrames}
 use Rattle.cache_disk.specs.State.{HostState, SameBut, Silent, Moves}
 use Rattle.cache_disk.specs.State as disk
 use Rattle.cache_disk.specs.Calls.{OnFile, AllLeft}
-use Rattle.data_file.specs.Appending.{CountsOneOf, next_place}
+use Rattle.data_file.specs.Appending.{CountsOneOf, next_place, written}
 use Rattle.record_format.specs.Changing.{item_by}
 use Rattle.append_log.specs.declared.log_files.LogFiles.{LogFiles}
-use Rattle.append_log.specs.Current.{store_of, size_limit, next_seq_of, next_file_of, mark_of, is_spoilt_log, is_unsealed, tail_of, file_of, file_behind, closed_frames, marked, closes, makes_by, number_of, record_size, IsUsable}
+use Rattle.append_log.specs.Current.{store_of, size_limit, next_seq_of, next_file_of, mark_of, is_spoilt_log, is_unsealed, tail_of, file_of, file_behind, has_current, closed_frames, marked, closes, makes_by, number_of, record_size, IsUsable}
 use Rattle.append_log.specs.Standing.{Held, Stands, put_held}
 
 -- A log that was just made: it has no file yet.
@@ -40,11 +40,13 @@ pub record Goes {R : Type 0} (old new : LogFiles) (result : Result R StoreFault)
   pub usable : is_spoilt_log new ≡ false → IsUsable new
   pub ok : OnOk result (is_spoilt_log new ≡ false)
   pub refused : OnErr result (is_spoilt_log new ≡ false → IsErrOf result fault.Memory × (new ≡ old))
+  -- where a number is spent none was taken
+  pub spent : (s : Spent) → IsErrOf result (fault.Spent s) → (next_seq_of new ≡ next_seq_of old) × (next_file_of new ≡ next_file_of old)
   pub damaged : (d : Damage) → IsErrOf result (fault.Damaged d) → ⊥
 
 -- no number is taken
 abbrev pub TakesNone : LogFiles → LogFiles → Type 0
-TakesNone old new = (next_seq_of new ≡ next_seq_of old) × (next_file_of new ≡ next_file_of old)
+TakesNone old new = (next_seq_of new ≡ next_seq_of old) × (next_file_of new ≡ next_file_of old) × (number_of old ≤ number_of new)
 
 -- one number of each kind is taken at the most
 abbrev pub TakesOne : LogFiles → LogFiles → Type 0
@@ -57,6 +59,7 @@ sealed_tail (Some tail) = Some (tail.0, if tail.2 then tail.1 + 10 else tail.1, 
 
 -- After a seal nothing waits.
 pub record IsSealed (moment : ℕ) (old new : LogFiles) : Type 0 where
+  pub file : number_of new ≡ number_of old
   pub tail : tail_of new ≡ sealed_tail (tail_of old)
   pub mark : mark_of new ≡ marked (is_unsealed old) (mark_of old) moment
 
@@ -89,7 +92,8 @@ pub record Seals {R : Type 0} (moment : ℕ) (held : Held) (after : R → Held) 
   pub stands : IfOk result (λ answer. Stands new b (after answer))
   pub images : Moves a b (OnFile (file_of old) (CountsOneOf held.frames (closed_frames (is_unsealed old) held.frames held.records moment)))
   pub files : SameBut (file_of old) a.files b.files
-  -- every image has the file as it reads, be it closed or not
+  -- the file is its frames to the byte, be it closed or not, and every image has it as it reads
+  pub reads : OnOk result (has_current old ≡ true → file_in b.files (file_of old) ≡ Some (written (closed_frames (is_unsealed old) held.frames held.records moment) []))
   pub settled : OnOk result (AllLeft b (λ image. file_in image (file_of old) ≡ file_in b.files (file_of old)))
   pub silent : Silent a b
   pub refused : OnErr result (is_spoilt_log new ≡ false → disk.Stands a b)
@@ -120,6 +124,8 @@ pub record PutsBy (over : Bool) (one : Item) (moment : ℕ) (held : Held) (old n
   pub at : IfOk result (λ place. place.at ≡ (if over then 2 else next_place held.frames held.records))
   pub images : Moves a b (OnFiles old over (CountsIf over held.frames (closed_frames (is_unsealed old) held.frames held.records moment)))
   pub files : SameBeside old over a.files b.files
+  -- the file that was closed is its frames to the byte
+  pub closed : OnOk result (over ≡ true → file_in b.files (file_of old) ≡ Some (written (closed_frames (is_unsealed old) held.frames held.records moment) []))
   pub silent : Silent a b
   pub spent : (s : Spent) → IsErrOf result (fault.Spent s) → disk.Stands a b
   pub refused : OnErr result (is_spoilt_log new ≡ false → disk.Stands a b)

@@ -136,6 +136,10 @@ is_unsealed files = files.unsealed
 abbrev pub has_current : LogFiles → Bool
 has_current files = is_some files.log
 
+-- what writes the current file
+abbrev pub writer_of : LogFiles → Option Appender
+writer_of files = files.log
+
 -- the number of the file that it writes, or is to make
 abbrev pub number_of : LogFiles → ℕ
 number_of files = files.file

@@ -25,6 +25,7 @@ returns-in-Ok-clause-told g c told held one moment stands is spelled =
       at = ens.at told held.frames held.records stands.current;
       images = on_current old a b held.frames (closed_frames old.unsealed held.frames held.records moment) moves;
       files = beside_current old false a.files b.files (ens.others told);
+      closed = λ over. let no : false ≡ true = over in cc;
       silent = ens.silent told;
       spent = λ s err. cc;
       refused = tt;

@@ -10,7 +10,7 @@ use Rattle.data_file.specs.declared.appender.Appender.{Appender}
 use Rattle.append_log.specs.Current.{closed_frames, data_name, file_of, file_behind, makes_file, next_file_of}
 use Rattle.append_log.specs.Standing.{Stands, closed_held, turned_held}
 use Rattle.append_log.proofs.Holding.{turned_done, turned_mark, makes_over, next_most, some_next}
-use Rattle.append_log.proofs.Steps.{beside_both, counts_now, current_alone, is_named, on_both, on_closed, same_alone}
+use Rattle.append_log.proofs.Steps.{before_name, beside_both, counts_now, current_alone, is_named, on_both, on_closed, same_alone}
 use Rattle.append_log.proofs.log_files.LogFiles.put_behind.Goals as goal
 
 pub put-requires-clause-stands : goal.put-requires-clause-stands
@@ -56,6 +56,7 @@ returns-in-Err-clause-told g c told held one stands is spelled =
           (counts_now old.store old.log old.file a held.frames held.records (is_named old.store old.log old.file old.unsealed c.requires.usable.log) stands.current)
           b first.images;
       files = λ name apart behind. first.files name apart;
+      closed = tt;
       silent = first.silent;
       spent = λ s err. absurd (c.rotate.ensures.unspent s cc);
       refused = first.refused;
@@ -85,6 +86,9 @@ returns-in-Ok-clause-told g c told held one stands is spelled =
           b d first.images
           (subst (λ (n : FileName). Moves b d (OnFile n (CountsFrames []))) name (current_alone mid b d [] (closed_frames mid.unsealed [] [] c.args.moment) second.images));
       files = beside_both old a.files b.files d.files first.files (subst (λ (n : FileName). SameBut n b.files d.files) name (same_alone mid b.files d.files second.files));
+      closed = λ over.
+          subst (λ (n : FileName). SameBut n b.files d.files) name (same_alone mid b.files d.files second.files) (file_of old) (before_name old)
+          ∙ first.reads c.requires.there;
       silent = Silent-trans a b d first.images.later second.images.later first.silent second.silent;
       spent = λ s err. cc;
       refused = tt;
@@ -114,6 +118,7 @@ returns-in-Err-put-clause-told g c told held one stands is spelled =
           b d first.images
           (subst (λ (n : FileName). Moves b d (OnFile n (CountsFrames []))) name (current_alone mid b d [] (closed_frames mid.unsealed [] [] c.args.moment) second.images));
       files = beside_both old a.files b.files d.files first.files (subst (λ (n : FileName). SameBut n b.files d.files) name (same_alone mid b.files d.files second.files));
+      closed = tt;
       silent = Silent-trans a b d first.images.later second.images.later first.silent second.silent;
       spent = λ s err. absurd (c.put.ensures.unspent s cc);
       refused = λ sound. let no : true ≡ false = sound in cc;

@@ -22,6 +22,7 @@ returns-clause-told g c told held stands =
           (holds_closed mid log.0 b held.closed (closed_frames old.unsealed held.frames held.records c.args.moment) log.1 named c.in_default.ensures.unsealed usable.some first.stands));
       images = first.images;
       files = first.files;
+      reads = first.reads;
       settled = first.settled;
       silent = first.silent;
       refused = tt;
