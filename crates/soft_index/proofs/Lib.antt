@@ -11,5 +11,7 @@ mod Settling
 pub mod SingleEntries
 pub mod Images
 pub mod Changes
-mod Rotating
 pub mod Ruled
+pub mod Putting
+pub mod Standing
+pub mod Turning

@@ -18,7 +18,10 @@ use Rattle.soft_index.specs.Opening.{Counted, Records, kept_of, counted_in, coun
 use Rattle.soft_index.specs.declared.newest.Newest.{Newest}
 use Rattle.soft_index.specs.declared.log_store.LogStore.{LogStore}
 use Rattle.cache_model.specs.Numbers.{IsNextSequence, IsNextFile}
-use Rattle.soft_index.specs.Store.{AreInRange, IsLogOf, content_of, log_facts, HasReading, entries_of, IsMadeOf, IsReadFrom, IsOpened, IsNamed, IsFileOf, Holds}
+use Rattle.soft_index.specs.Store.{AreInRange, content_of, log_facts, main_files, next_file, next_of, number, writer, HasReading, entries_of, IsMadeOf, IsReadFrom, IsOpened, IsNamed, IsFileOf, Holds}
+use Rattle.append_log.specs.Standing.{Stands as HoldsFiles, nothing_held}
+use Rattle.data_file.specs.declared.appender.Appender.{Appender}
+use Rattle.std.proofs.Math.Nat.{eq-or-lt_of_le}
 use Rattle.soft_index.specs.Laws.{reading-same}
 use Rattle.data_file.proofs.Frame.{placed_of}
 use Rattle.store_trait.specs.Meaning.{read_in}
@@ -232,42 +235,58 @@ pub opened-from : (a b : HostState) (numbers : List ℕ) (settings : Settings) (
     → IsOpened a.files b settings store store.latest
 opened-from a b numbers settings store each same images read = record {
   stands = record {
-    log = subst (λ log. IsFileOf log store.file b [] []) (sym read.made.log) (refl, refl, λ image left. images image left store.file ∙ none);
-    named = subst (λ log. IsNamed log store.file) (sym read.made.log) tt;
+    main = read.made.usable.main;
+    log = ([], holds);
+    named = subst (λ log. IsNamed 0 log (number store)) (sym read.made.log) tt;
     others = λ image left n other. images image left n ∙ sym (there n);
     sound = λ n bytes other is. is-sound a.files numbers each read.undamaged n bytes (sym (there n) ∙ is);
     content = λ key.
-        reading-same (IsCounted a.files) (Holds store.file (placed_of [] []) b.files) key (read_in (content_of store) key)
+        reading-same (IsCounted a.files) (Holds (number store) (placed_of [] []) b.files) key (read_in (content_of store) key)
         (λ n at item of_key counted. kept n at item counted)
         (λ n at item of_key counted. only n at item counted)
         (reads key);
     above = λ n at item key counted of_key. omega (arith, is-above a.files numbers read.table each read.stands n at item key (only n at item counted) of_key, read.made.next);
     mark = λ n at m counted. omega (arith, mark.bound n at m (only n at (end m) counted), read.made.latest);
-    pending = λ is. refl;
-    beyond = λ n above. there n ∙ nothing n above;
-    rests = λ is image left. images image left store.file ∙ sym (there store.file);
   };
   content = reads;
   mark_is = subst (λ m. IsMark a.files m) (sym read.made.latest) mark;
   latest = refl;
   sound = is-sound a.files numbers each read.undamaged;
   next = subst (λ n. IsNextSequence a.files n) (sym read.made.next) (is-next a.files numbers read.table each read.stands);
-  number = is-next-file a.files numbers store.file each read.behind;
+  number = is-next-file a.files numbers (number store) each read.behind;
   goes_by = read.made.goes_by;
 }
   where
     there : (n : ℕ) → file_in b.files (log_name n) ≡ file_in a.files (log_name n)
     there n = same (log_name n)
 
-    none : file_in a.files (log_name store.file) ≡ None
-    none = absent a.files numbers store.file each read.behind
+    none : file_in a.files (log_name (number store)) ≡ None
+    none = absent a.files numbers (number store) each read.behind
 
-    nothing : (n : ℕ) → store.file < n → file_in a.files (log_name n) ≡ None
-    nothing n above = from (file_in a.files (log_name n)) (λ some. All-contains (λ k. k < store.file) numbers n read.behind.above ((each n).1 some))
+    nothing : (n : ℕ) → (number store) < n → file_in a.files (log_name n) ≡ None
+    nothing n above = from (file_in a.files (log_name n)) (λ some. All-contains (λ k. k < (number store)) numbers n read.behind.above ((each n).1 some))
       where
-        from : (found : Option (List ℕ)) → (IsSome found → n < store.file) → found ≡ None
+        from : (found : Option (List ℕ)) → (IsSome found → n < (number store)) → found ≡ None
         from None less = refl
         from (Some bytes) less = absurd (omega (arith, less refl, above))
+
+    least : next_file (writer store) (number store) ≡ number store
+    least = ap (λ (l : Option Appender). next_file l (number store)) read.made.log
+
+    beyond : (n : ℕ) → next_file (writer store) (number store) ≤ n → file_in a.files (log_name n) ≡ None
+    beyond n above = ⊎_elim (λ same. subst (λ (k : ℕ). file_in a.files (log_name k) ≡ None) (sym least ∙ same) none) (λ less. nothing n (omega (arith, less, least))) (eq-or-lt_of_le above)
+
+    holds : HoldsFiles (main_files store) b nothing_held
+    holds = record {
+      current = subst (λ log. IsFileOf 0 log (number store) b [] []) (sym read.made.log) (refl, refl, λ image left. images image left (number store) ∙ none);
+      closed = tt;
+      below = tt;
+      rising = tt;
+      beyond = λ n above. there n ∙ beyond n above;
+      absent = λ n above image left. images image left n ∙ beyond n above;
+      pending = read.made.unsealed;
+      rests = λ is image left. images image left (number store) ∙ sym (there (number store));
+    }
 
     mark : IsMark a.files read.table.mark
     mark = has-mark a.files numbers read.table each read.stands
@@ -278,14 +297,14 @@ opened-from a b numbers settings store each same images read = record {
         (sym (read.made.content key ∙ reads_entries read.table.records.entries key))
         (has-reading a.files numbers key (kept_of read.table.records.entries key) each (read.stands.newest key))
 
-    kept : (n at : ℕ) (item : Item) → IsCounted a.files n at item → Holds store.file (placed_of [] []) b.files n at item
+    kept : (n at : ℕ) (item : Item) → IsCounted a.files n at item → Holds (number store) (placed_of [] []) b.files n at item
     kept n at item counted =
         inr (
           λ is. let no : None ≡ Some counted.bytes = sym none ∙ ap (λ k. file_in a.files (log_name k)) (sym is) ∙ counted.there in cc,
           record { bytes = counted.bytes; there = there n ∙ counted.there; counted = counted.counted },
         )
 
-    only : (n at : ℕ) (item : Item) → Holds store.file (placed_of [] []) b.files n at item → IsCounted a.files n at item
+    only : (n at : ℕ) (item : Item) → Holds (number store) (placed_of [] []) b.files n at item → IsCounted a.files n at item
     only n at item (inl here) = absurd (omega (arith, here.1.1))
     only n at item (inr other) = record { bytes = other.1.bytes; there = sym (there n) ∙ other.1.there; counted = other.1.counted }
 
@@ -313,21 +332,11 @@ opened-before a b now settings store same is =
       mark_is = mark-there b a store.latest back is.mark_is;
       latest = refl;
       sound = sound-there b a back is.sound;
-      next = next-there b a store.next back is.next;
-      number = next-file-there b a store.file back is.number;
+      next = next-there b a (next_of store) back is.next;
+      number = next-file-there b a (number store) back is.number;
       goes_by = is.goes_by;
     }
 
 -- a store that was made may be used at its mark
 pub made-ready : (table : Table) (settings : Settings) (file : ℕ) (store : LogStore) → IsMadeOf table settings file store → AreInRange settings → table.mark < 2 ^ 61 → table.next ≤ 2 ^ 62 → 1 ≤ file → IsReady (log_facts store) store.latest
-made-ready table settings file store made ranges mark next some = record {
-  unspoilt = made.sound;
-  usable = record {
-    log = subst (λ log. IsLogOf log store.file store.unsealed) (sym made.log) made.unsealed;
-    next = omega (arith, made.next, next);
-    some = omega (arith, made.file_is, some);
-    file_size = omega (arith, made.goes_by.file_size, ranges.file_size);
-  };
-  late = omega arith;
-  moment_fits = omega (arith, made.latest, mark);
-}
+made-ready table settings file store made ranges mark next some = record { unspoilt = made.sound; usable = made.usable; late = omega arith; moment_fits = omega (arith, made.latest, mark) }

@@ -10,11 +10,12 @@ use Rattle.cache_disk.specs.Calls.{AllLeft}
 use Rattle.cache_disk.proofs.Runs.{left_still}
 use Rattle.data_file.specs.declared.appender.Appender.{Appender}
 use Rattle.data_file.specs.Appending.{name_of}
-use Rattle.data_file.proofs.Frame.{placed_of, counted_now, stands_on}
+use Rattle.data_file.proofs.Frame.{placed_of, counted_now}
 use Rattle.store_trait.specs.Meaning.{Reading, read_in}
 use Rattle.store_trait.specs.Keeping.{HoldsNow, Carries, Leaves, SameWhere}
 use Rattle.soft_index.specs.declared.log_store.LogStore.{LogStore}
-use Rattle.soft_index.specs.Store.{HasReading, Holds, SameOthers, IsNamed, IsFileOf, LogStands, content_of, owns_file, log_facts, log_means}
+use Rattle.soft_index.specs.Store.{HasReading, Holds, SameOthers, IsNamed, IsFileOf, LogStands, content_of, main_files, number, writer, owns_file, log_facts, log_means}
+use Rattle.append_log.proofs.Holding.{holds_beside}
 use Rattle.std.proofs.lemmas.Bool.Decides.{nat_tests}
 
 -- the same file, or another one
@@ -51,12 +52,12 @@ reading-same p q key reading kept only (inr some) =
 
 -- each image is sound
 pub sound_of : (S : LogStore) (a : HostState) (frames : List Frame) (records : List Item) → LogStands S a frames records → AllLeft a IsSound
-sound_of S a frames records stands image left n bytes there = ⊎_elim same other (cases_file n S.file)
+sound_of S a frames records stands image left n bytes there = ⊎_elim same other (cases_file n (number S))
   where
-    other : (n ≡ S.file → ⊥) → IsUndamaged bytes
+    other : (n ≡ (number S) → ⊥) → IsUndamaged bytes
     other apart = stands.sound n bytes apart (sym (stands.others image left n apart) ∙ there)
 
-    in_log : (log : Option Appender) → IsNamed log S.file → IsFileOf log S.file a frames records → file_in image (log_name S.file) ≡ Some bytes → IsUndamaged bytes
+    in_log : (log : Option Appender) → IsNamed 0 log (number S) → IsFileOf 0 log (number S) a frames records → file_in image (log_name (number S)) ≡ Some bytes → IsUndamaged bytes
     in_log None named file is = let no : None ≡ Some bytes = sym (file.2 image left) ∙ is in cc
     in_log (Some log) named file is =
         let has = counted_now log a frames records file image left in
@@ -64,8 +65,8 @@ sound_of S a frames records stands image left n bytes there = ⊎_elim same othe
         let one : has.bytes ≡ bytes = cc in
         subst (λ (l : List ℕ). IsUndamaged l) one (ap (λ (f : Found). f.damage) has.file)
 
-    same : n ≡ S.file → IsUndamaged bytes
-    same is = in_log S.log stands.named stands.log (ap (λ k. file_in image (log_name k)) (sym is) ∙ there)
+    same : n ≡ (number S) → IsUndamaged bytes
+    same is = in_log (writer S) stands.named stands.log.1.current (ap (λ k. file_in image (log_name k)) (sym is) ∙ there)
 
 pub log_holds : (S : LogStore) (a : HostState) (frames : List Frame) (records : List Item) → S.spoilt ≡ false → LogStands S a frames records → HoldsNow (log_facts S) (log_means S a) a.turn
 log_holds S a frames records sound stands = record {
@@ -84,42 +85,29 @@ others_same file a b same n apart = same (log_name n) refl
 others_back : (file : ℕ) (a b : Image) → SameOthers file a b → SameOthers file b a
 others_back file a b same n apart = sym (same n apart)
 
-log_on : (log : Option Appender) (file : ℕ) (a b : HostState) (frames : List Frame) (records : List Item) → Leaves owns_file true a b → IsNamed log file → IsFileOf log file a frames records → IsFileOf log file b frames records
-log_on None file a b frames records leaves named is = (
-  is.0,
-  is.1,
-  left_still a b (SameWhere owns_file true) (λ image. file_in image (log_name file) ≡ None) leaves.images is.2 (λ d m none same. same (log_name file) refl ∙ none),
-)
-log_on (Some log) file a b frames records leaves named is =
-    stands_on log a frames records is b (SameWhere owns_file true)
-    (leaves.files (name_of log) (ap owns_file named))
-    leaves.images
-    (λ d c same. same (name_of log) (ap owns_file named))
-
 stands_there : (S : LogStore) (a b : HostState) (frames : List Frame) (records : List Item) → Leaves owns_file true a b → LogStands S a frames records → LogStands S b frames records
 stands_there S a b frames records leaves stands =
-    let same = others_same S.file a.files b.files leaves.files in
-    let back = others_back S.file a.files b.files same in
+    let same = others_same (number S) a.files b.files leaves.files in
+    let back = others_back (number S) a.files b.files same in
     let items = placed_of frames records in
     let same_log = λ (n : ℕ). leaves.files (log_name n) refl in
     record {
-      log = log_on S.log S.file a b frames records leaves stands.named stands.log;
+      main = stands.main;
+      log = (
+        stands.log.0,
+        holds_beside (main_files S) a b (record { closed = stands.log.0; frames = frames; records = records }) (SameWhere owns_file true) stands.named same_log leaves.images (λ n d m step. step (log_name n) refl) stands.log.1,
+      );
       named = stands.named;
-      others = left_still a b (SameWhere owns_file true) (λ image. SameOthers S.file b.files image) leaves.images
+      others = left_still a b (SameWhere owns_file true) (λ image. SameOthers (number S) b.files image) leaves.images
           (λ image left n apart. stands.others image left n apart ∙ sym (same n apart))
           (λ d m is step n apart. step (log_name n) refl ∙ is n apart);
       sound = λ n bytes apart there. stands.sound n bytes apart (sym (same n apart) ∙ there);
-      content = λ key. reading-same (Holds S.file items a.files) (Holds S.file items b.files) key (read_in (content_of S) key)
-          (λ n at item of_key. holds-there S.file items a.files b.files same n at item)
-          (λ n at item of_key. holds-there S.file items b.files a.files back n at item)
+      content = λ key. reading-same (Holds (number S) items a.files) (Holds (number S) items b.files) key (read_in (content_of S) key)
+          (λ n at item of_key. holds-there (number S) items a.files b.files same n at item)
+          (λ n at item of_key. holds-there (number S) items b.files a.files back n at item)
           (stands.content key);
-      above = λ n at item key counted. stands.above n at item key (holds-there S.file items b.files a.files back n at item counted);
-      mark = λ n at m counted. stands.mark n at m (holds-there S.file items b.files a.files back n at (end m) counted);
-      pending = stands.pending;
-      beyond = λ n above. same_log n ∙ stands.beyond n above;
-      rests = λ unsealed. left_still a b (SameWhere owns_file true) (λ image. file_in image (log_name S.file) ≡ file_in b.files (log_name S.file)) leaves.images
-          (λ image left. stands.rests unsealed image left ∙ sym (same_log S.file))
-          (λ d m is step. step (log_name S.file) refl ∙ is);
+      above = λ n at item key counted. stands.above n at item key (holds-there (number S) items b.files a.files back n at item counted);
+      mark = λ n at m counted. stands.mark n at m (holds-there (number S) items b.files a.files back n at (end m) counted);
     }
 
 -- what an image reads goes along

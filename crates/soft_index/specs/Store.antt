@@ -21,7 +21,13 @@ use Rattle.cache_model.specs.Numbers.{IsNextSequence, IsNextFile}
 use Rattle.cache_disk.specs.State.{HostState}
 use Rattle.cache_disk.specs.Calls.{AllLeft}
 use Rattle.data_file.specs.declared.appender.Appender.{Appender}
-use Rattle.data_file.specs.Appending.{name_of, size_of, is_spoilt, StandsFor, sealed, written}
+use Rattle.data_file.specs.Appending.{sealed, written}
+pub use Rattle.record_format.specs.Changing.{item_by}
+use Rattle.append_log.specs.declared.log_files.LogFiles.{LogFiles}
+pub use Rattle.append_log.specs.Current.{most_file_size, next_file, closed_frames, IsNamed, IsFileOf}
+use Rattle.append_log.specs.Current as append
+use Rattle.append_log.specs.Standing.{Closed, Stands}
+pub use Rattle.append_log.specs.Calls.{IsSpentBy}
 use Rattle.data_file.proofs.Frame.{placed_of}
 use Rattle.store_trait.specs.Meaning.{Reading, Content, read_in, Row, StoreFacts, StoreState}
 use Rattle.store_trait.specs.Keeping.{SameContent}
@@ -32,11 +38,6 @@ use Rattle.soft_index.specs.Opening.{Records, StandsForItems, counted_of, AreUnd
 -- the content of the store
 abbrev pub content_of : LogStore → Content
 content_of store = store.entries.content
-
--- the record of a change
-abbrev pub item_by : ℕ → Change → Item
-item_by seq (Put key entry) = put seq entry.until key entry.value
-item_by seq (Remove key) = removal seq key
 
 -- A record of a key counts, and no other record of the key that counts is newer.
 pub record IsNewestBy (counts : ℕ → ℕ → Item → Type 0) (key : List ℕ) (number at : ℕ) (item : Item) : Type 0 where
@@ -76,64 +77,10 @@ pub record ImageWhole (state : HostState) (t : ℕ) (content : Content) (mark : 
   pub reads : (key : List ℕ) → HasReading (IsCounted image) key (read_in content key)
   pub marked : IsMark image mark
 
--- the greatest size that a file may be given
-abbrev pub most_file_size : ℕ
-most_file_size = 16777216
-
 -- The settings that the store goes by are in their ranges.
 pub record AreInRange (settings : Settings) : Type 0 where
   pub file_size : settings.file_size ≤ most_file_size
   pub bits : settings.hash_bits ≤ 32
-
--- how many bytes the end of a frame takes, where there is one in the making
-abbrev pub closing : Bool → ℕ
-closing true = 11
-closing false = 0
-
--- what writes the current file, where there is one, writes that file, may be used, and has room to end its frame
-abbrev pub IsLogOf : Option Appender → ℕ → Bool → Type 0
-IsLogOf None number unsealed = unsealed ≡ false
-IsLogOf (Some log) number unsealed = (name_of log ≡ log_name number) × (is_spoilt log ≡ false) × IsFileName (log_name number) × (size_of log + closing unsealed ≤ most_file_size + 2)
-
--- the store's file holds these frames and records, or is in no image where it isn't made
-abbrev pub IsFileOf : Option Appender → ℕ → HostState → List Frame → List Item → Type 0
-IsFileOf None number state frames records = (frames ≡ []) × (records ≡ []) × AllLeft state (λ image. file_in image (log_name number) ≡ None)
-IsFileOf (Some log) number state frames records = StandsFor log state frames records
-
--- what writes the file writes the one with this number
-abbrev pub IsNamed : Option Appender → ℕ → Type 0
-IsNamed None number = Unit {0}
-IsNamed (Some log) number = name_of log ≡ log_name number
-
--- the file is made, and holds these
-abbrev pub IsLogStanding : Option Appender → HostState → List Frame → List Item → Type 0
-IsLogStanding None state frames records = ⊥
-IsLogStanding (Some log) state frames records = StandsFor log state frames records
-
--- a record of so many bytes fits into the current file, or into one that may be made
-abbrev pub Fits : Option Appender → ℕ → ℕ → Type 0
-Fits None number size = number ≤ 4294967294
-Fits (Some log) number size = size_of log + size + 10 ≤ most_file_size
-
--- there is a current file, and the record fits
-abbrev pub HasRoom : Option Appender → ℕ → Type 0
-HasRoom None size = ⊥
-HasRoom (Some log) size = size_of log + size + 10 ≤ most_file_size
-
--- the number of the next file to be made
-abbrev pub next_file : Option Appender → ℕ → ℕ
-next_file None number = number
-next_file (Some log) number = number + 1
-
--- whether the current file is closed before a record of so many bytes: it holds something, and would get too large
-abbrev pub is_over : Option Appender → ℕ → ℕ → Bool
-is_over None file_size size = false
-is_over (Some log) file_size size = nat_lt 1 (size_of log) && nat_lt file_size (size_of log + size + 10)
-
--- whether a file is made for a record, where that closes the current one or doesn't
-abbrev pub makes_file : Option Appender → Bool → Bool
-makes_file None over = true
-makes_file (Some log) over = over
 
 -- the number of the current file, none where there is none
 abbrev pub current_of : Option Appender → ℕ → Option ℕ
@@ -172,59 +119,69 @@ abbrev pub records_after : Bool → List Item → Item → List Item
 records_after true records one = []
 records_after false records one = records ++ one ∷ []
 
+-- its log: what it knows of its files, apart from the name of its store, which is the main one
+abbrev pub main_files : LogStore → LogFiles
+main_files store = record (append.files_of store.log) { store = 0 }
+
+-- the number of the file that is written, or is to be made
+abbrev pub number : LogStore → ℕ
+number store = append.number_of (append.files_of store.log)
+
+-- what writes it, where it is made
+abbrev pub writer : LogStore → Option Appender
+writer store = append.writer_of (append.files_of store.log)
+
+-- the next sequence number
+abbrev pub next_of : LogStore → ℕ
+next_of store = append.next_seq_of (append.files_of store.log)
+
+-- whether something waits for a seal
+abbrev pub waiting : LogStore → Bool
+waiting store = append.is_unsealed (append.files_of store.log)
+
+-- the current file of a log holds these frames and records
+abbrev pub HoldsLog : LogFiles → HostState → List Frame → List Item → Type 0
+HoldsLog files state frames records = (closed : List Closed) × Stands files state (record { closed = closed; frames = frames; records = records })
+
 -- The log holds frames and records. Every image has each other file as it reads. The content is that of the newest
 -- records, with those that aren't sealed yet.
 pub record LogStands (store : LogStore) (state : HostState) (frames : List Frame) (records : List Item) : Type 0 where
-  pub log : IsFileOf store.log store.file state frames records
-  pub named : IsNamed store.log store.file
-  pub others : AllLeft state (λ image. SameOthers store.file state.files image)
-  pub sound : (n : ℕ) (bytes : List ℕ) → (n ≡ store.file → ⊥) → file_in state.files (log_name n) ≡ Some bytes → IsUndamaged bytes
-  pub content : (key : List ℕ) → HasReading (Holds store.file (placed_of frames records) state.files) key (read_in (content_of store) key)
-  pub above : (n a : ℕ) (item : Item) (key : List ℕ) → Holds store.file (placed_of frames records) state.files n a item → key_of item ≡ Some key → sequence_of item < store.next
-  pub mark : (n a m : ℕ) → Holds store.file (placed_of frames records) state.files n a (end m) → m ≤ store.latest
-  pub pending : store.unsealed ≡ false → records ≡ []
-  -- no file has a greater number
-  pub beyond : (n : ℕ) → store.file < n → file_in state.files (log_name n) ≡ None
-  -- every image has the file as it reads, where nothing waits
-  pub rests : store.unsealed ≡ false → AllLeft state (λ image. file_in image (log_name store.file) ≡ file_in state.files (log_name store.file))
+  pub main : append.store_of (append.files_of store.log) ≡ 0
+  pub log : HoldsLog (main_files store) state frames records
+  pub named : IsNamed 0 (writer store) (number store)
+  pub others : AllLeft state (λ image. SameOthers (number store) state.files image)
+  pub sound : (n : ℕ) (bytes : List ℕ) → (n ≡ number store → ⊥) → file_in state.files (log_name n) ≡ Some bytes → IsUndamaged bytes
+  pub content : (key : List ℕ) → HasReading (Holds (number store) (placed_of frames records) state.files) key (read_in (content_of store) key)
+  pub above : (n a : ℕ) (item : Item) (key : List ℕ) → Holds (number store) (placed_of frames records) state.files n a item → key_of item ≡ Some key → sequence_of item < next_of store
+  pub mark : (n a m : ℕ) → Holds (number store) (placed_of frames records) state.files n a (end m) → m ≤ store.latest
 
 -- the store may be used
 pub record IsUsable (store : LogStore) : Type 0 where
-  pub log : IsLogOf store.log store.file store.unsealed
-  pub next : store.next ≤ 2 ^ 62
-  pub some : 1 ≤ store.file
-  pub file_size : store.file_size ≤ most_file_size
-
--- what a file holds once it is closed: what waits becomes a frame
-abbrev pub closed_frames : Bool → List Frame → List Item → ℕ → List Frame
-closed_frames true frames records moment = sealed frames records moment
-closed_frames false frames records moment = frames
+  pub log : append.IsUsable (append.files_of store.log)
+  pub main : append.store_of (append.files_of store.log) ≡ 0
 
 -- whether a change closes the current file before its record is written
 abbrev pub closes : LogStore → Change → Bool
-closes store change = is_over store.log store.file_size (length (spelling (item_by store.next change)))
+closes store change = append.closes (append.files_of store.log) change
+
+-- A change is one record more that waits for a seal, in the current file, or in the next one where the current one is
+-- closed before it.
+pub record IsPutIn (change : Change) (moment : ℕ) (frames : List Frame) (records : List Item) (old new : LogStore) (after : HostState) : Type 0 where
+  pub holds : LogStands new after (if closes old change then [] else frames) ((if closes old change then [] else records) ++ item_by (next_of old) change ∷ [])
+  pub closed : closes old change ≡ true → file_in after.files (log_name (number old)) ≡ Some (written (closed_frames (waiting old) frames records moment) [])
 
 -- A change is one record more of the current file, or the first record of the next one, where the current one is closed
 -- before it: its number is the next one, and where changes are synced at once it ends a frame with the moment.
 pub record IsWritten (change : Change) (moment : ℕ) (frames : List Frame) (records : List Item) (old new : LogStore) (after : HostState) : Type 0 where
-  pub file : new.file ≡ (if closes old change then old.file + 1 else old.file)
+  pub file : number new ≡ (if closes old change then number old + 1 else number old)
   pub holds : LogStands new after
-      (frames_after old.sync_writes (if closes old change then [] else frames) (if closes old change then [] else records) (item_by old.next change) moment)
-      (records_after old.sync_writes (if closes old change then [] else records) (item_by old.next change))
-  pub closed : closes old change ≡ true → file_in after.files (log_name old.file) ≡ Some (written (closed_frames old.unsealed frames records moment) [])
-
--- the number that a record of so many bytes finds at its end: that of the file to be made for it
-abbrev pub file_spent : LogStore → ℕ → Option Spent
-file_spent store size = if makes_file store.log (is_over store.log store.file_size size) && next_file store.log store.file == 4294967295 then Some (Files 4294967295) else None
+      (frames_after old.sync_writes (if closes old change then [] else frames) (if closes old change then [] else records) (item_by (next_of old) change) moment)
+      (records_after old.sync_writes (if closes old change then [] else records) (item_by (next_of old) change))
+  pub closed : closes old change ≡ true → file_in after.files (log_name (number old)) ≡ Some (written (closed_frames (waiting old) frames records moment) [])
 
 -- the number that a change finds at its end: its own, or that of the file to be made for it
 abbrev pub spent_by : LogStore → Change → Option Spent
-spent_by store change = if store.next == 4611686018427387904 then Some (Sequence store.next) else file_spent store (length (spelling (item_by store.next change)))
-
--- A number is answered as spent exactly where it is, want of memory aside.
-pub record IsSpentBy (spent : Option Spent) (result : Result (Unit {0}) StoreFault) : Type 0 where
-  pub only : (s : Spent) → IsErrOf result (fault.Spent s) → spent ≡ Some s
-  pub always : (s : Spent) → spent ≡ Some s → IsErrOf result (fault.Spent s) ⊎ IsErrOf result fault.Memory
+spent_by store change = append.spent_by (append.files_of store.log) change
 
 -- whether a file is a data file or the index of the main store
 abbrev pub owns_file : FileName → Bool
@@ -241,10 +198,10 @@ log_facts store = record {
   ordered = true;
   firm = store.sync_writes;
   quiet = λ key. false;
-  drawn = store.next;
-  made = next_file store.log store.file;
-  numbers = Some (record { sequence = store.next; file = store.file });
-  parts = row_of (current_of store.log store.file);
+  drawn = next_of store;
+  made = next_file (writer store) (number store);
+  numbers = Some (record { sequence = next_of store; file = number store });
+  parts = row_of (current_of (writer store) (number store));
   moves = λ change a b. IsCurrent b;
   empties = λ a b. b ≡ a;
   room = λ a b. b ≡ a;
@@ -252,7 +209,7 @@ log_facts store = record {
 
 -- which number is at its end
 abbrev pub is_spent : LogStore → Spent → Type 0
-is_spent store s = ((s ≡ Sequence store.next) × (store.next ≡ 2 ^ 62)) ⊎ ((s ≡ Files 4294967295) × (next_file store.log store.file ≡ 4294967295))
+is_spent store s = ((s ≡ Sequence (next_of store)) × (next_of store ≡ 2 ^ 62)) ⊎ ((s ≡ Files 4294967295) × (next_file (writer store) (number store) ≡ 4294967295))
 
 -- What an image reads may be left, and between two calls the content too.
 abbrev pub log_means : LogStore → HostState → StoreState
@@ -278,16 +235,17 @@ entries_of records = map (λ r. (r.0, r.1.entry)) records
 -- The store goes by these settings.
 pub record GoesBy (settings : Settings) (store : LogStore) : Type 0 where
   pub bits : store.entries.bits ≡ settings.hash_bits
-  pub file_size : store.file_size ≡ settings.file_size
+  pub file_size : append.size_limit (append.files_of store.log) ≡ settings.file_size
   pub sync_writes : store.sync_writes ≡ settings.sync_writes
 
 -- A store as it is made of a table: nothing is written yet.
 pub record IsMadeOf (table : Table) (settings : Settings) (file : ℕ) (store : LogStore) : Type 0 where
   pub content : SameContent (entries_of table.records.entries) (content_of store)
-  pub next : store.next ≡ table.next
-  pub file_is : store.file ≡ file
-  pub log : store.log ≡ None
-  pub unsealed : store.unsealed ≡ false
+  pub next : next_of store ≡ table.next
+  pub file_is : number store ≡ file
+  pub usable : IsUsable store
+  pub log : writer store ≡ None
+  pub unsealed : waiting store ≡ false
   pub latest : store.latest ≡ table.mark
   pub sound : store.spoilt ≡ false
   pub goes_by : GoesBy settings store
@@ -297,8 +255,8 @@ pub record IsReadFrom (files : Image) (numbers : List ℕ) (settings : Settings)
   pub table : Table
   pub stands : StandsForItems table (counted_of files numbers)
   pub undamaged : AreUndamaged files numbers
-  pub made : IsMadeOf table settings store.file store
-  pub behind : IsBehind numbers store.file
+  pub made : IsMadeOf table settings (number store) store
+  pub behind : IsBehind numbers (number store)
 
 -- A store that was opened from the files as they read: its content is theirs, its mark, and the numbers it goes on with.
 pub record IsOpened (files : Image) (now : HostState) (settings : Settings) (store : LogStore) (mark : ℕ) : Type 0 where
@@ -307,6 +265,6 @@ pub record IsOpened (files : Image) (now : HostState) (settings : Settings) (sto
   pub mark_is : IsMark files mark
   pub latest : store.latest ≡ mark
   pub sound : IsSound files
-  pub next : IsNextSequence files store.next
-  pub number : IsNextFile files store.file
+  pub next : IsNextSequence files (next_of store)
+  pub number : IsNextFile files (number store)
   pub goes_by : GoesBy settings store

@@ -9,7 +9,6 @@ mod reading;
 mod soft_index;
 mod spelling;
 mod store;
-mod writing;
 
 pub use soft_index::SoftIndex;
 

@@ -74,18 +74,7 @@ fn store_of(
         next,
     } = table;
     let entries = entries_by(alloc, settings.hash_bits, records)?;
-    Ok(LogStore {
-        alloc,
-        entries,
-        next,
-        file,
-        log: None,
-        unsealed: false,
-        latest: mark,
-        sync_writes: settings.sync_writes,
-        file_size: settings.file_size,
-        spoilt: false,
-    })
+    LogStore::made(alloc, entries, next, file, mark, settings)
 }
 
 // Reads these data files, which are all and whose numbers rise, and makes a store of what they hold. What is read of

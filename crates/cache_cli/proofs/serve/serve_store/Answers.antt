@@ -38,14 +38,14 @@ returns-in-Ok-result-clause-serves g c = λ tells told from stands.
     let lines = lines_of (g.I.Source.rest c.args.script.now) in
     let course = course_by c.args.settings.now start c.args.given lines in
     let store = c.in-Ok.store in
-    let numbers : Numbers = record { sequence = store.log.next; file = store.log.file } in
+    let numbers : Numbers = record { sequence = store.log.log.files.next; file = store.log.log.files.file } in
     let read = still_then start a mid stands (c.in-Ok.ensures.read tells) in
     let started = started_same start.files a.files c.args.settings.now _ _ c.in-Ok.mark stands.files (c.in-Ok.ensures.started tells) in
     let opened = opened_by c.args.settings.now start mid _ _ c.in-Ok.mark read started (c.in-Ok.ensures.settled tells) in
     let finished = c.run_store-ran.ensures.finished tells told course true refl
     (begins c.args.settings.now start mid c.args.given c.start_moment.result c.in-Ok.mark lines _ _ opened
     (sequence_le numbers opened.started.numbers.0 opened.started.numbers.1)
-    (file_le store.log.log store.log.file numbers opened.started.numbers.0 opened.started.parts refl opened.started.numbers.1)
+    (file_le store.log.log.files.log store.log.log.files.file numbers opened.started.numbers.0 opened.started.parts refl opened.started.numbers.1)
     tt refl c.start_moment.ensures) in
     serves_whole start mid course _ _ finished c.in-Ok-result.is refl read (λ t image content mark left reads marked. inl (record { image = image; left = left; reads = reads; marked = marked })) (λ t image opens left. opens image left)
 
@@ -57,14 +57,14 @@ returns-in-Ok-clause-serves g c = λ tells told from stands.
     let lines = lines_of (g.I.Source.rest c.args.script.now) in
     let course = course_by c.args.settings.now start c.args.given lines in
     let store = c.in-Ok.store in
-    let numbers : Numbers = record { sequence = store.log.next; file = store.log.file } in
+    let numbers : Numbers = record { sequence = store.log.log.files.next; file = store.log.log.files.file } in
     let read = still_then start a mid stands (c.in-Ok.ensures.read tells) in
     let started = started_same start.files a.files c.args.settings.now _ _ c.in-Ok.mark stands.files (c.in-Ok.ensures.started tells) in
     let opened = opened_by c.args.settings.now start mid _ _ c.in-Ok.mark read started (c.in-Ok.ensures.settled tells) in
     let finished = c.run_store-ran.ensures.finished tells told course true refl
     (begins c.args.settings.now start mid c.args.given c.start_moment.result c.in-Ok.mark lines _ _ opened
     (sequence_le numbers opened.started.numbers.0 opened.started.numbers.1)
-    (file_le store.log.log store.log.file numbers opened.started.numbers.0 opened.started.parts refl opened.started.numbers.1)
+    (file_le store.log.log.files.log store.log.log.files.file numbers opened.started.numbers.0 opened.started.parts refl opened.started.numbers.1)
     tt refl c.start_moment.ensures) in
     serves_early start mid course _ c.in-Err.status _ finished c.in-Err.is refl read refl (λ s spent. index_spent (store_of c.run_store-ran.result.session).log s spent) (λ t image content mark left reads marked. inl (record { image = image; left = left; reads = reads; marked = marked })) (λ t image opens left. opens image left)
 

@@ -1,18 +1,27 @@
-use Rattle.std.proofs.Common.{Option, ◌≡◌, inl, refl, ap, ◌∙◌, Err, Ok, ℕ, ◌+◌, List, [], ◌∷◌, ◌++◌, false}
-use Rattle.cache_model.specs.DataFiles.{CountsFrames}
-use Rattle.data_file.specs.Appending.{sealed, CountsOneOf}
+use Rattle.std.proofs.Common.{inl, inr, Option, ◌≡◌, ◌∙◌, refl, ap, sym, subst, Err, Ok, ℕ, List, [], ◌∷◌, ◌++◌, false}
+use Rattle.cache_model.specs.declared.entries.Entry.{Entry}
+use Rattle.cache_model.specs.declared.files.Place.{Place}
+use Rattle.cache_disk.proofs.Runs.{Stands-same}
+use Rattle.append_log.specs.declared.log_files.LogFiles.{LogFiles}
+use Rattle.append_log.specs.Calls.{CountsIf, PutsBy}
+use Rattle.append_log.specs.Standing.{Held}
 use Rattle.store_trait.specs.Meaning.{read_in, changed, key_of}
 use Rattle.store_trait.specs.Held.{key_of_seat}
 use Rattle.store_trait.specs.Keeping.{SameContent}
-use Rattle.soft_index.proofs.Entering.{front_same}
 use Rattle.soft_index.specs.declared.log_store.LogStore.{LogStore}
-use Rattle.soft_index.specs.Store.{item_by, content_of, frames_after, records_after}
-use Rattle.soft_index.proofs.Images.{still_acts, refused_acts, refused_keeps, file_acts, change_image, settled_now, as_was, hostly_damaged, hostly_spent}
-use Rattle.soft_index.proofs.Changes.{written_stands, none_waits, current_is}
-use Rattle.cache_model.specs.declared.entries.Entry.{Entry}
-use Rattle.cache_disk.proofs.Runs.{Stands-same}
-use Rattle.soft_index.specs.Store.{row_of}
+use Rattle.soft_index.specs.Store.{closed_frames, closes, content_of, item_by, next_of, row_of, waiting}
+use Rattle.soft_index.proofs.Entering.{front_same}
+use Rattle.soft_index.proofs.Images.{call_acts}
+use Rattle.soft_index.proofs.Changes.{as_was, current_by_tail, same_parts, still_acts, still_keeps, still_stands}
+use Rattle.soft_index.proofs.Putting.{number_after, put_in, put_leaves, since_put, spent_number}
+use Rattle.soft_index.proofs.Turning.{from_main}
 use Rattle.soft_index.proofs.store.put.Goals as goal
+
+pub put_change-requires-clause-stands : goal.put_change-requires-clause-stands
+put_change-requires-clause-stands g c told =
+    let stands = c.requires.stands told in
+    let held : Held = record { closed = stands.2.log.0; frames = stands.0; records = stands.1 } in
+    (held, from_main c.args.store.now.log.files (g.H.Host.state c.args.host.now) held c.requires.ready.usable.main stands.2.log.1)
 
 pub returns-in_default-clause-told : goal.returns-in_default-clause-told
 returns-in_default-clause-told g c told =
@@ -20,111 +29,109 @@ returns-in_default-clause-told g c told =
     let new : LogStore = record old { entries = c.seat.new.self; latest = c.args.moment } in
     let a = g.H.Host.state c.args.host.now in
     let stands = c.requires.stands told in
-    let kept = as_was old new refl refl refl refl c.seat.ensures.held in
-    record {
-      acts = still_acts {R = Unit {0}} old new a c.args.moment (changed c.args.change.now (content_of old)) stands.0 stands.1 _ stands.2 c.requires.ready.unspoilt c.requires.ready.late refl c.requires.ready.usable.log kept (λ d err. cc) (λ s err. cc);
-      content = tt;
-      unchanged = λ of sound. kept.content;
-      kept = λ of sound. refused_keeps old new a a c.args.moment stands.0 stands.1 stands.2 c.requires.ready.unspoilt c.requires.ready.late refl kept (Stands-same a);
-      quiet = λ quiet. cc;
-      firm = λ firm. tt;
-      parts = tt;
-    }
+    still_acts {R = Unit {0}} old new a a c.args.moment (changed c.args.change.now (content_of old)) stands.0 stands.1 _ stands.2 c.requires.ready.unspoilt c.requires.ready.late refl (as_was old new refl c.seat.ensures.held) (Stands-same a) (λ d err. cc) (λ s err. cc)
+
+pub returns-in_default-clause-kept : goal.returns-in_default-clause-kept
+returns-in_default-clause-kept g c told err unspoilt =
+    let old = c.args.store.now in
+    let new : LogStore = record old { entries = c.seat.new.self; latest = c.args.moment } in
+    let a = g.H.Host.state c.args.host.now in
+    let stands = c.requires.stands told in
+    still_keeps old new a a c.args.moment stands.0 stands.1 stands.2 c.requires.ready.unspoilt c.requires.ready.late refl (as_was old new refl c.seat.ensures.held) (Stands-same a)
+
+pub returns-in-Ok-put_change-clause-current : goal.returns-in-Ok-put_change-clause-current
+returns-in-Ok-put_change-clause-current g c =
+    let put = c.in-Ok-put_change.ensures.put in
+    let G = c.put_change.new.self.files in
+    (c.in-Ok-put_change.field-0.file, ap row_of (current_by_tail G.log G.file G.unsealed _ put.tail))
+
+pub returns-in-Ok-put_change-clause-content : goal.returns-in-Ok-put_change-clause-content
+returns-in-Ok-put_change-clause-content g c =
+    let old = c.args.store.now in
+    let change = c.args.change.now in
+    let seated : key_of_seat c.in-Ok.seat ≡ key_of change = c.in-Ok.ensures.seat.1 ∙ c.key_of.ensures in
+    λ key.
+    c.fill.ensures.held key
+    ∙ front_same (key_of_seat c.in-Ok.seat) c.args.held (content_of old) c.seat.new.self.content c.seat.ensures.held key
+    ∙ ap (λ (k : List ℕ). read_in ((k, c.args.held) ∷ content_of old) key) seated
+    ∙ ap (λ (h : Option Entry). read_in ((key_of change, h) ∷ content_of old) key) c.requires.held
+
+pub returns-in-Ok-put_change-clause-wrote : goal.returns-in-Ok-put_change-clause-wrote
+returns-in-Ok-put_change-clause-wrote g c told frames records stands =
+    let old = c.args.store.now in
+    let new : LogStore = record old { entries = c.fill.new.self; log = c.put_change.new.self; latest = c.args.moment } in
+    let F = old.log.files in
+    let G = c.put_change.new.self.files in
+    let a = g.H.Host.state c.args.host.now in
+    let b = g.H.Host.state c.put_change.new.host in
+    let main = c.requires.ready.usable.main in
+    let change = c.args.change.now in
+    let place = c.in-Ok-put_change.field-0 in
+    let ens = c.in-Ok-put_change.ensures in
+    let held : Held = record { closed = stands.log.0; frames = frames; records = records } in
+    let puts = subst (λ (s : ℕ). PutsBy (closes old change) (item_by F.next change) c.args.moment held (record F { store = s }) G a b (Ok place)) main (ens.told told held (from_main F a held main stands.log.1)) in
+    put_in (closes old change) change c.args.moment old new a b frames records place stands refl c.requires.ready.late refl (ens.goes.usable ens.goes.ok) (ens.goes.store ∙ main) ens.put.next_seq
+    (number_after old new change c.args.moment place ens.put) puts (returns-in-Ok-put_change-clause-content g c)
+
+pub returns-in-Ok-put_change-clause-told : goal.returns-in-Ok-put_change-clause-told
+returns-in-Ok-put_change-clause-told g c told =
+    let old = c.args.store.now in
+    let new : LogStore = record old { entries = c.fill.new.self; log = c.put_change.new.self; latest = c.args.moment } in
+    let F = old.log.files in
+    let G = c.put_change.new.self.files in
+    let a = g.H.Host.state c.args.host.now in
+    let b = g.H.Host.state c.put_change.new.host in
+    let main = c.requires.ready.usable.main in
+    let change = c.args.change.now in
+    let place = c.in-Ok-put_change.field-0 in
+    let stands = c.requires.stands told in
+    let over = closes old change in
+    let held : Held = record { closed = stands.2.log.0; frames = stands.0; records = stands.1 } in
+    let counts = CountsIf over stands.0 (closed_frames (waiting old) stands.0 stands.1 c.args.moment) in
+    let puts = subst (λ (s : ℕ). PutsBy over (item_by F.next change) c.args.moment held (record F { store = s }) G a b (Ok place)) main (c.in-Ok-put_change.ensures.told told held (from_main F a held main stands.2.log.1)) in
+    let content = returns-in-Ok-put_change-clause-content g c in
+    let now = returns-in-Ok-put_change-clause-wrote g c told stands.0 stands.1 stands.2 in
+    call_acts old new a b stands.0 stands.1 c.args.moment (changed change (content_of old)) _ stands.2 puts.images (since_put over old a stands.0 stands.1 c.args.moment stands.2) c.requires.ready.unspoilt c.requires.ready.late refl (λ unspoilt. inl content)
+    {R = Unit {0}} (Ok tt) (put_leaves over old a b counts puts.files puts.images) puts.silent (λ unspoilt. (_, _, now.holds)) (λ d err. cc) (λ s err. cc) (λ err. cc)
 
 pub returns-in-Err-clause-told : goal.returns-in-Err-clause-told
 returns-in-Err-clause-told g c told =
     let old = c.args.store.now in
-    let mid = c.write_change.new.self in
-    let new : LogStore = record mid { entries = c.unseat.new.self } in
+    let new : LogStore = record old { entries = c.unseat.new.self; log = c.put_change.new.self; latest = c.args.moment; spoilt = c.is_spoilt-store.result } in
+    let F = old.log.files in
+    let G = c.put_change.new.self.files in
     let a = g.H.Host.state c.args.host.now in
-    let b = g.H.Host.state c.write_change.new.host in
+    let b = g.H.Host.state c.put_change.new.host in
+    let main = c.requires.ready.usable.main in
+    let change = c.args.change.now in
     let stands = c.requires.stands told in
-    let rest = c.write_change.ensures.rest in
-    let change = c.args.change.now in
-    let one = item_by old.next change in
-    let more = sealed stands.0 (stands.1 ++ one ∷ []) c.args.moment in
-    let content : SameContent (content_of old) (content_of new) = (λ key. c.unseat.ensures.held key ∙ ap (λ (x : LogStore). read_in (content_of x) key) rest ∙ c.seat.ensures.held key) in
-    let kept = λ (unspoilt : new.spoilt ≡ false). let same = c.in-Err.ensures.failed unspoilt in as_was old new (ap (λ (x : LogStore). x.file) same) (ap (λ (x : LogStore). x.log) same) (ap (λ (x : LogStore). x.unsealed) same) (ap (λ (x : LogStore). x.next) same) content in
-    record {
-      acts = refused_acts {R = Unit {0}} old new a b c.args.moment (changed change (content_of old)) stands.0 stands.1 (CountsOneOf stands.0 more) (CountsFrames more) (Err c.in-Err.fault)
-          stands.2 c.requires.ready.unspoilt c.requires.ready.late (ap (λ (x : LogStore). x.latest) rest) c.requires.ready.usable.log kept
-          (c.write_change.ensures.images told stands.0 stands.1 one stands.2.log c.requires.record c.requires.spelled) (λ bytes one. one)
-          (change_image old a stands.0 stands.1 c.args.moment change stands.2)
-          (c.write_change.ensures.others told) (c.write_change.ensures.silent told)
-          (c.in-Err.ensures.kept told)
-          (hostly_damaged c.in-Err.fault c.in-Err.ensures.faults) (λ s err. absurd (hostly_spent {R = Unit {0}} c.in-Err.fault c.in-Err.ensures.faults s err));
-      content = tt;
-      unchanged = λ of sound. content;
-      kept = λ of sound. refused_keeps old new a b c.args.moment stands.0 stands.1 stands.2 c.requires.ready.unspoilt c.requires.ready.late (ap (λ (x : LogStore). x.latest) rest) (kept sound) (c.in-Err.ensures.kept told sound);
-      quiet = λ quiet. cc;
-      firm = λ firm. tt;
-      parts = tt;
-    }
+    let over = closes old change in
+    let held : Held = record { closed = stands.2.log.0; frames = stands.0; records = stands.1 } in
+    let counts = CountsIf over stands.0 (closed_frames (waiting old) stands.0 stands.1 c.args.moment) in
+    let ens = c.in-Err.ensures in
+    let puts = subst (λ (s : ℕ). PutsBy over (item_by F.next change) c.args.moment held (record F { store = s }) G a b (Err c.in-Err.fault)) main (ens.told told held (from_main F a held main stands.2.log.1)) in
+    let content : SameContent (content_of old) (content_of new) = (λ key. c.unseat.ensures.held key ∙ c.seat.ensures.held key) in
+    let kept = λ (unspoilt : c.is_spoilt-store.result ≡ false). as_was old new (ens.goes.refused (sym c.is_spoilt-store.ensures ∙ unspoilt)).1 content in
+    call_acts old new a b stands.0 stands.1 c.args.moment (changed change (content_of old)) _ stands.2 puts.images (since_put over old a stands.0 stands.1 c.args.moment stands.2) c.requires.ready.unspoilt c.requires.ready.late refl (λ unspoilt. inr content)
+    {R = Unit {0}} (Err c.in-Err.fault) (put_leaves over old a b counts puts.files puts.images) puts.silent
+    (λ unspoilt. (stands.0, stands.1, still_stands old new a b stands.0 stands.1 stands.2 (kept unspoilt) c.requires.ready.late (puts.refused (sym c.is_spoilt-store.ensures ∙ unspoilt))))
+    (λ d err. absurd (c.put_change.ensures.goes.damaged d cc))
+    (λ s err. spent_number old new change s (c.put_change.ensures.spent.only s cc) (c.put_change.ensures.goes.spent s cc))
+    (λ err unspoilt. (content, same_parts old new (kept unspoilt)))
 
-pub returns-in-Err-clause-unspent : goal.returns-in-Err-clause-unspent
-returns-in-Err-clause-unspent g c s err = hostly_spent {R = Unit {0}} c.in-Err.fault c.in-Err.ensures.faults s err
-
-pub returns-clause-wrote : goal.returns-clause-wrote
-returns-clause-wrote g c told frames records stands =
+pub returns-in-Err-clause-kept : goal.returns-in-Err-clause-kept
+returns-in-Err-clause-kept g c told err unspoilt =
     let old = c.args.store.now in
-    let mid = c.write_change.new.self in
-    let new : LogStore = record mid { entries = c.fill.new.self; next = mid.next + 1 } in
-    let rest = c.write_change.ensures.rest in
-    let change = c.args.change.now in
-    let one = item_by old.next change in
-    let seated : key_of_seat c.in-Ok.seat ≡ key_of change = c.in-Ok.ensures.seat.1 ∙ c.key_of.ensures in
-    let content : SameContent (changed change (content_of old)) (content_of new) =
-    (λ key.
-    c.fill.ensures.held key
-    ∙ ap (λ (x : LogStore). read_in ((key_of_seat c.in-Ok.seat, c.args.held) ∷ content_of x) key) rest
-    ∙ front_same (key_of_seat c.in-Ok.seat) c.args.held (content_of old) c.seat.new.self.content c.seat.ensures.held key
-    ∙ ap (λ (k : List ℕ). read_in ((k, c.args.held) ∷ content_of old) key) seated
-    ∙ ap (λ (h : Option Entry). read_in ((key_of change, h) ∷ content_of old) key) c.requires.held)
-    in
-    written_stands old.sync_writes old new (g.H.Host.state c.args.host.now) (g.H.Host.state c.write_change.new.host) frames records c.args.moment change stands
-    (ap (λ (x : LogStore). x.file) rest) (c.write_change.ensures.usable c.in_default-write_change.ensures.sound)
-    (ap (λ (x : LogStore). x.next + 1) rest) content c.requires.ready.late (ap (λ (x : LogStore). x.latest) rest)
-    (c.write_change.ensures.images told frames records one stands.log c.requires.record c.requires.spelled) (c.write_change.ensures.others told)
-    (c.in_default-write_change.ensures.stands told frames records one stands.log c.requires.record c.requires.spelled)
-    c.in_default-write_change.ensures.unsealed (c.in_default-write_change.ensures.settled told)
-
-pub returns-clause-told : goal.returns-clause-told
-returns-clause-told g c told =
-    let old = c.args.store.now in
-    let mid = c.write_change.new.self in
-    let new : LogStore = record mid { entries = c.fill.new.self; next = mid.next + 1 } in
+    let new : LogStore = record old { entries = c.unseat.new.self; log = c.put_change.new.self; latest = c.args.moment; spoilt = c.is_spoilt-store.result } in
+    let F = old.log.files in
+    let G = c.put_change.new.self.files in
     let a = g.H.Host.state c.args.host.now in
-    let b = g.H.Host.state c.write_change.new.host in
+    let b = g.H.Host.state c.put_change.new.host in
+    let main = c.requires.ready.usable.main in
     let stands = c.requires.stands told in
-    let rest = c.write_change.ensures.rest in
-    let change = c.args.change.now in
-    let one = item_by old.next change in
-    let more = sealed stands.0 (stands.1 ++ one ∷ []) c.args.moment in
-    let moves = c.write_change.ensures.images told stands.0 stands.1 one stands.2.log c.requires.record c.requires.spelled in
-    let others = c.write_change.ensures.others told in
-    let latest = ap (λ (x : LogStore). x.latest) rest in
-    let seated : key_of_seat c.in-Ok.seat ≡ key_of change = c.in-Ok.ensures.seat.1 ∙ c.key_of.ensures in
-    let content : SameContent (changed change (content_of old)) (content_of new) =
-    (λ key.
-    c.fill.ensures.held key
-    ∙ ap (λ (x : LogStore). read_in ((key_of_seat c.in-Ok.seat, c.args.held) ∷ content_of x) key) rest
-    ∙ front_same (key_of_seat c.in-Ok.seat) c.args.held (content_of old) c.seat.new.self.content c.seat.ensures.held key
-    ∙ ap (λ (k : List ℕ). read_in ((k, c.args.held) ∷ content_of old) key) seated
-    ∙ ap (λ (h : Option Entry). read_in ((key_of change, h) ∷ content_of old) key) c.requires.held)
-    in
-    let after = returns-clause-wrote g c told stands.0 stands.1 stands.2 in
-    record {
-      acts = file_acts {R = Unit {0}} old new a b c.args.moment (changed change (content_of old)) stands.0 stands.1 (CountsOneOf stands.0 more) (CountsFrames more) (Ok tt)
-          stands.2 c.requires.ready.unspoilt c.requires.ready.late latest
-          moves (λ bytes one. one) (change_image old a stands.0 stands.1 c.args.moment change stands.2)
-          others (c.write_change.ensures.silent told)
-          (λ unspoilt. (frames_after old.sync_writes stands.0 stands.1 one c.args.moment, records_after old.sync_writes stands.1 one, after))
-          (λ unspoilt. inl content)
-          (λ d err. cc) (λ s err. cc) (λ err. cc);
-      content = content;
-      unchanged = λ of. cc;
-      kept = λ of. cc;
-      quiet = λ quiet. cc;
-      firm = λ firm. (settled_now new b (frames_after old.sync_writes stands.0 stands.1 one c.args.moment) (records_after old.sync_writes stands.1 one) (none_waits old.sync_writes stands.1 one firm) after).each (key_of change);
-      parts = (mid.file, ap row_of (current_is mid.log mid.file c.in_default-write_change.ensures.current));
-    }
+    let over = closes old c.args.change.now in
+    let held : Held = record { closed = stands.2.log.0; frames = stands.0; records = stands.1 } in
+    let ens = c.in-Err.ensures in
+    let puts = subst (λ (s : ℕ). PutsBy over (item_by F.next c.args.change.now) c.args.moment held (record F { store = s }) G a b (Err c.in-Err.fault)) main (ens.told told held (from_main F a held main stands.2.log.1)) in
+    let sound = sym c.is_spoilt-store.ensures ∙ unspoilt in
+    still_keeps old new a b c.args.moment stands.0 stands.1 stands.2 c.requires.ready.unspoilt c.requires.ready.late refl (as_was old new (ens.goes.refused sound).1 (λ key. c.unseat.ensures.held key ∙ c.seat.ensures.held key)) (puts.refused sound)

@@ -1,123 +1,122 @@
-use Rattle.std.proofs.Common.{inl, refl, ap, sym, Err, Ok, ℕ, List, [], subst, arith, ◌∙◌, Bool}
-use Rattle.cache_model.specs.DataFiles.{CountsFrames}
-use Rattle.store_trait.specs.Meaning.{read_in}
+use Rattle.std.proofs.Common.{◌≡◌, ◌∙◌, ℕ, Bool, List, [], Err, Ok, refl, sym, ap, subst, arith, false}
+use Rattle.cache_model.specs.Items.{Item}
+use Rattle.cache_model.specs.DataFiles.{Frame}
+use Rattle.data_file.specs.Appending.{CountsOneOf}
+use Rattle.append_log.specs.Standing.{Held, sealed_held}
 use Rattle.soft_index.specs.declared.log_store.LogStore.{LogStore}
-use Rattle.soft_index.specs.Store.{content_of}
-use Rattle.std.proofs.Common.{Bool, Some}
-use Rattle.cache_model.specs.Files.{file_in}
-use Rattle.cache_model.specs.Images.{log_name}
-use Rattle.soft_index.specs.Store.{closed_frames}
-use Rattle.data_file.specs.Appending.{sealed, written, CountsOneOf}
-use Rattle.data_file.proofs.Frame.{placed_of}
-use Rattle.soft_index.specs.Store.{HasReading, Holds}
-use Rattle.soft_index.proofs.Images.{file_standing, stands_sealed, file_acts, still_acts, refused_acts, seal_image, settled_now, as_was, is_named, hostly_damaged, hostly_spent}
-use Rattle.soft_index.proofs.Changes.{flushed_row, same_row, resting_reads, log_reads, draws_none}
+use Rattle.soft_index.specs.Store.{closed_frames, number, waiting}
+use Rattle.soft_index.proofs.Images.{settled_now}
+use Rattle.soft_index.proofs.Changes.{as_was, draws_none, flushed_row, same_parts, still_stands}
+use Rattle.soft_index.proofs.Standing.{stands_sealed}
+use Rattle.soft_index.proofs.Turning.{from_main, named_main, sealed_parts, sealing_acts, seals_main, to_main}
 use Rattle.soft_index.proofs.store.seal.Goals as goal
 
-pub returns-then-not-store-clause-told : goal.returns-then-not-store-clause-told
-returns-then-not-store-clause-told g c told =
-    let old = c.args.store.now in
-    let new : LogStore = record old { latest = c.args.moment } in
-    let a = g.H.Host.state c.args.host.now in
+pub seal-requires-clause-stands : goal.seal-requires-clause-stands
+seal-requires-clause-stands g c told =
     let stands = c.requires.stands told in
-    let acts = still_acts {R = Unit {0}} old new a c.args.moment (content_of old) stands.0 stands.1 (Ok tt) stands.2 c.requires.ready.unspoilt c.requires.ready.late refl c.requires.ready.usable.log (as_was old new refl refl refl refl (λ key. refl)) (λ d err. cc) (λ s err. cc) in
-    let after = acts.stands c.requires.ready.unspoilt in
-    record {
-      acts = acts;
-      content = λ key. refl;
-      unchanged = λ of sound key. refl;
-      settled = settled_now new a after.0 after.1 (after.2.pending c.if-not-store.true) after.2;
-      parts = refl;
-      flushed = flushed_row _;
-    }
+    let held : Held = record { closed = stands.2.log.0; frames = stands.0; records = stands.1 } in
+    (held, from_main c.args.store.now.log.files (g.H.Host.state c.args.host.now) held c.requires.ready.usable.main stands.2.log.1)
+
+pub returns-in-Err-clause-draws : goal.returns-in-Err-clause-draws
+returns-in-Err-clause-draws g c =
+    let old = c.args.store.now in
+    let new : LogStore = record old { log = c.seal.new.self; latest = c.args.moment; spoilt = c.is_spoilt-store.result } in
+    let takes = c.seal.ensures.takes in
+    draws_none old new takes.0 takes.1 takes.2
+
+pub returns-clause-draws : goal.returns-clause-draws
+returns-clause-draws g c =
+    let old = c.args.store.now in
+    let new : LogStore = record old { log = c.seal.new.self; latest = c.args.moment } in
+    let takes = c.seal.ensures.takes in
+    draws_none old new takes.0 takes.1 takes.2
 
 pub returns-in-Err-clause-told : goal.returns-in-Err-clause-told
 returns-in-Err-clause-told g c told =
     let old = c.args.store.now in
-    let new = c.seal_log.new.self in
+    let new : LogStore = record old { log = c.seal.new.self; latest = c.args.moment; spoilt = c.is_spoilt-store.result } in
+    let F = old.log.files in
+    let G = c.seal.new.self.files in
     let a = g.H.Host.state c.args.host.now in
-    let b = g.H.Host.state c.seal_log.new.host in
+    let b = g.H.Host.state c.seal.new.host in
     let stands = c.requires.stands told in
-    let more = sealed stands.0 stands.1 c.args.moment in
-    let rest = c.seal_log.ensures.rest in
-    let content = λ (key : List ℕ). ap (λ (x : LogStore). read_in (content_of x) key) rest in
+    let main = c.requires.ready.usable.main in
+    let held : Held = record { closed = stands.2.log.0; frames = stands.0; records = stands.1 } in
+    let after = λ (answer : Unit {0}). sealed_held F.unsealed c.args.moment held in
+    let seals = seals_main {R = Unit {0}} F G a b c.args.moment held after (Err c.in-Err.fault) main (c.in-Err.ensures.told told held (from_main F a held main stands.2.log.1)) in
+    let kept = λ (unspoilt : c.is_spoilt-store.result ≡ false). as_was old new (c.in-Err.ensures.goes.refused (sym c.is_spoilt-store.ensures ∙ unspoilt)).1 (λ key. refl) in
     record {
-      acts = refused_acts {R = Unit {0}} old new a b c.args.moment (content_of old) stands.0 stands.1 (CountsOneOf stands.0 more) (CountsFrames more) (Err c.in-Err.fault)
-          stands.2 c.requires.ready.unspoilt c.requires.ready.late (ap (λ (x : LogStore). x.latest) rest) c.requires.ready.usable.log
-          (λ unspoilt. let same = c.in-Err.ensures.failed unspoilt in as_was old new (ap (λ (x : LogStore). x.file) same) (ap (λ (x : LogStore). x.log) same) (ap (λ (x : LogStore). x.unsealed) same) (ap (λ (x : LogStore). x.next) same) content)
-          (c.seal_log.ensures.images told stands.0 stands.1 stands.2.log) (λ bytes one. one)
-          (seal_image old a stands.0 stands.1 c.args.moment stands.2)
-          (c.seal_log.ensures.others told) (c.seal_log.ensures.silent told)
-          (c.in-Err.ensures.kept told)
-          (hostly_damaged c.in-Err.fault c.in-Err.ensures.faults) (λ s err. absurd (hostly_spent {R = Unit {0}} c.in-Err.fault c.in-Err.ensures.faults s err));
+      acts = sealing_acts {R = Unit {0}} old new a b stands.0 stands.1 c.args.moment stands.2.log.0 after G (Err c.in-Err.fault) stands.2 c.requires.ready.unspoilt c.requires.ready.late refl seals (λ key. refl)
+          (λ unspoilt. (stands.0, stands.1, still_stands old new a b stands.0 stands.1 stands.2 (kept unspoilt) c.requires.ready.late (seals.refused (sym c.is_spoilt-store.ensures ∙ unspoilt))))
+          c.in-Err.ensures.goes.damaged c.in-Err.ensures.unspent
+          (λ err unspoilt. same_parts old new (kept unspoilt));
       content = tt;
-      unchanged = λ of sound. content;
+      unchanged = λ of sound key. refl;
       settled = tt;
       parts = tt;
       flushed = tt;
     }
 
+pub returns-clause-wrote : goal.returns-clause-wrote
+returns-clause-wrote g c told frames records stands =
+    let old = c.args.store.now in
+    let new : LogStore = record old { log = c.seal.new.self; latest = c.args.moment } in
+    let F = old.log.files in
+    let G = c.seal.new.self.files in
+    let a = g.H.Host.state c.args.host.now in
+    let b = g.H.Host.state c.seal.new.host in
+    let main = c.requires.ready.usable.main in
+    let held : Held = record { closed = stands.log.0; frames = frames; records = records } in
+    let after = λ (answer : Unit {0}). sealed_held F.unsealed c.args.moment held in
+    let seals = seals_main {R = Unit {0}} F G a b c.args.moment held after (Ok tt) main (c.in_default.ensures.told told held (from_main F a held main stands.log.1)) in
+    let goes = c.in_default.ensures.goes in
+    let main_now = goes.store ∙ main in
+    stands_sealed old new a b frames records (CountsOneOf frames (closed_frames (waiting old) frames records c.args.moment)) stands c.in_default.ensures.sealed.file seals.images seals.files c.args.moment
+    main_now (stands.log.0, to_main G b (after tt) main_now seals.stands) (named_main G main_now (goes.usable goes.ok)) (λ key. refl) c.in_default.ensures.takes.0 c.requires.ready.late refl
+
 pub returns-clause-told : goal.returns-clause-told
 returns-clause-told g c told =
     let old = c.args.store.now in
-    let new = c.seal_log.new.self in
+    let new : LogStore = record old { log = c.seal.new.self; latest = c.args.moment } in
+    let F = old.log.files in
+    let G = c.seal.new.self.files in
     let a = g.H.Host.state c.args.host.now in
-    let b = g.H.Host.state c.seal_log.new.host in
+    let b = g.H.Host.state c.seal.new.host in
     let stands = c.requires.stands told in
-    let more = sealed stands.0 stands.1 c.args.moment in
-    let rest = c.seal_log.ensures.rest in
-    let content = λ (key : List ℕ). ap (λ (x : LogStore). read_in (content_of x) key) rest in
-    let moves = c.seal_log.ensures.images told stands.0 stands.1 stands.2.log in
-    let after = stands_sealed old new a b stands.0 stands.1 (CountsOneOf stands.0 more) stands.2 (ap (λ (x : LogStore). x.file) rest) (c.seal_log.ensures.usable c.in_default.ensures.sound) moves (c.seal_log.ensures.others told)
-    stands.1 c.args.moment (file_standing new.log new.file b more [] (c.in_default.ensures.stands told stands.0 stands.1 stands.2.log))
-    (λ key. subst (λ r. HasReading (Holds old.file (placed_of stands.0 stands.1) a.files) key r) (sym (content key)) (stands.2.content key))
-    (λ n at item key counted of_key. omega (arith, stands.2.above n at item key counted of_key, ap (λ (x : LogStore). x.next) rest))
-    stands.2.mark c.requires.ready.late (ap (λ (x : LogStore). x.latest) rest) (c.in_default.ensures.settled told)
-    in
+    let main = c.requires.ready.usable.main in
+    let held : Held = record { closed = stands.2.log.0; frames = stands.0; records = stands.1 } in
+    let more = closed_frames (waiting old) stands.0 stands.1 c.args.moment in
+    let after = λ (answer : Unit {0}). sealed_held F.unsealed c.args.moment held in
+    let seals = seals_main {R = Unit {0}} F G a b c.args.moment held after (Ok tt) main (c.in_default.ensures.told told held (from_main F a held main stands.2.log.1)) in
+    let now = returns-clause-wrote g c told stands.0 stands.1 stands.2 in
     record {
-      acts = file_acts {R = Unit {0}} old new a b c.args.moment (content_of old) stands.0 stands.1 (CountsOneOf stands.0 more) (CountsFrames more) (Ok tt)
-          stands.2 c.requires.ready.unspoilt c.requires.ready.late (ap (λ (x : LogStore). x.latest) rest)
-          moves (λ bytes one. one) (seal_image old a stands.0 stands.1 c.args.moment stands.2)
-          (c.seal_log.ensures.others told) (c.seal_log.ensures.silent told)
-          (λ unspoilt. (more, [], after))
-          (λ unspoilt. inl content)
-          (λ d err. cc) (λ s err. cc) (λ err. cc);
-      content = content;
+      acts = sealing_acts {R = Unit {0}} old new a b stands.0 stands.1 c.args.moment stands.2.log.0 after G (Ok tt) stands.2 c.requires.ready.unspoilt c.requires.ready.late refl seals (λ key. refl)
+          (λ unspoilt. (more, [], now)) (λ d err. cc) (λ s err. cc) (λ err. cc);
+      content = λ key. refl;
       unchanged = λ of. cc;
-      settled = settled_now new b more [] refl after;
-      parts = same_row old.log new.log old.file new.file c.seal_log.ensures.there (ap (λ (x : LogStore). x.file) rest);
+      settled = settled_now new b more [] refl now;
+      parts = sealed_parts old new c.in_default.ensures.sealed.tail;
       flushed = flushed_row _;
     }
 
-pub returns-then-not-store-clause-draws : goal.returns-then-not-store-clause-draws
-returns-then-not-store-clause-draws g c =
-    let old = c.args.store.now in
-    draws_none old (record old { latest = c.args.moment }) refl refl (omega arith)
+pub returns-in-Err-clause-others : goal.returns-in-Err-clause-others
+returns-in-Err-clause-others g c told =
+    let F = c.args.store.now.log.files in
+    let G = c.seal.new.self.files in
+    let a = g.H.Host.state c.args.host.now in
+    let b = g.H.Host.state c.seal.new.host in
+    let stands = c.requires.stands told in
+    let main = c.requires.ready.usable.main in
+    let held : Held = record { closed = stands.2.log.0; frames = stands.0; records = stands.1 } in
+    (seals_main {R = Unit {0}} F G a b c.args.moment held (λ (answer : Unit {0}). sealed_held F.unsealed c.args.moment held) (Err c.in-Err.fault) main (c.in-Err.ensures.told told held (from_main F a held main stands.2.log.1))).files
 
-pub returns-in-Err-clause-draws : goal.returns-in-Err-clause-draws
-returns-in-Err-clause-draws g c =
-    let rest = c.seal_log.ensures.rest in
-    draws_none c.args.store.now c.seal_log.new.self (ap (λ (x : LogStore). x.next) rest) c.seal_log.ensures.made (omega (arith, ap (λ (x : LogStore). x.file) rest))
-
-pub returns-clause-draws : goal.returns-clause-draws
-returns-clause-draws g c =
-    let rest = c.seal_log.ensures.rest in
-    draws_none c.args.store.now c.seal_log.new.self (ap (λ (x : LogStore). x.next) rest) c.seal_log.ensures.made (omega (arith, ap (λ (x : LogStore). x.file) rest))
-
-pub returns-in-Err-clause-unspent : goal.returns-in-Err-clause-unspent
-returns-in-Err-clause-unspent g c s err = hostly_spent {R = Unit {0}} c.in-Err.fault c.in-Err.ensures.faults s err
-
-pub returns-then-not-store-clause-reads : goal.returns-then-not-store-clause-reads
-returns-then-not-store-clause-reads g c told frames records stands there =
-    resting_reads c.args.store.now (g.H.Host.state c.args.host.now) frames records c.args.moment stands there c.if-not-store.true
-
-pub returns-clause-reads : goal.returns-clause-reads
-returns-clause-reads g c told frames records stands there =
-    let old = c.args.store.now in
-    let new = c.seal_log.new.self in
-    let b = g.H.Host.state c.seal_log.new.host in
-    let more = sealed frames records c.args.moment in
-    let log = c.in_default.ensures.stands told frames records stands.log in
-    ap (λ (x : LogStore). file_in b.files (log_name x.file)) (sym c.seal_log.ensures.rest)
-    ∙ log_reads new.log new.file b more [] (is_named new.log new.file new.unsealed (c.seal_log.ensures.usable c.in_default.ensures.sound)) (c.seal_log.ensures.there ∙ there) (file_standing new.log new.file b more [] log)
-    ∙ ap (λ (u : Bool). Some (written (closed_frames u frames records c.args.moment) [])) (sym c.if-not-store.false)
+pub returns-clause-others : goal.returns-clause-others
+returns-clause-others g c told =
+    let F = c.args.store.now.log.files in
+    let G = c.seal.new.self.files in
+    let a = g.H.Host.state c.args.host.now in
+    let b = g.H.Host.state c.seal.new.host in
+    let stands = c.requires.stands told in
+    let main = c.requires.ready.usable.main in
+    let held : Held = record { closed = stands.2.log.0; frames = stands.0; records = stands.1 } in
+    (seals_main {R = Unit {0}} F G a b c.args.moment held (λ (answer : Unit {0}). sealed_held F.unsealed c.args.moment held) (Ok tt) main (c.in_default.ensures.told told held (from_main F a held main stands.2.log.1))).files

@@ -1,7 +1,8 @@
 use Rattle.std.proofs.Common.{refl, arith}
 use Rattle.soft_index.specs.declared.log_store.LogStore.{LogStore}
 use Rattle.soft_index.specs.Store.{content_of}
-use Rattle.soft_index.proofs.Images.{still_acts, as_was}
+use Rattle.cache_disk.proofs.Runs.{Stands-same}
+use Rattle.soft_index.proofs.Changes.{still_acts, as_was}
 use Rattle.soft_index.proofs.store.LogStoreReadStore.load.Goals as goal
 
 pub returns-in-Ok-clause-told : goal.returns-in-Ok-clause-told
@@ -10,7 +11,7 @@ returns-in-Ok-clause-told g c told =
     let new : LogStore = record old { latest = c.args.moment } in
     let stands = c.requires.stands told in
     record {
-      acts = still_acts old new (g.H.Host.state c.args._host.now) c.args.moment (content_of old) stands.0 stands.1 _ stands.2 c.requires.ready.unspoilt c.requires.ready.late refl c.requires.ready.usable.log (as_was old new refl refl refl refl (λ key. refl)) (λ d err. cc) (λ s err. cc);
+      acts = still_acts old new (g.H.Host.state c.args._host.now) (g.H.Host.state c.args._host.now) c.args.moment (content_of old) stands.0 stands.1 _ stands.2 c.requires.ready.unspoilt c.requires.ready.late refl (as_was old new refl (λ key. refl)) (Stands-same _) (λ d err. cc) (λ s err. cc);
       content = λ key. refl;
       answer = c.in-Ok.ensures.answer;
       parts = refl;
@@ -24,7 +25,7 @@ returns-in-Err-clause-told g c told =
     let new : LogStore = record old { latest = c.args.moment } in
     let stands = c.requires.stands told in
     record {
-      acts = still_acts old new (g.H.Host.state c.args._host.now) c.args.moment (content_of old) stands.0 stands.1 _ stands.2 c.requires.ready.unspoilt c.requires.ready.late refl c.requires.ready.usable.log (as_was old new refl refl refl refl (λ key. refl)) (λ d err. cc) (λ s err. cc);
+      acts = still_acts old new (g.H.Host.state c.args._host.now) (g.H.Host.state c.args._host.now) c.args.moment (content_of old) stands.0 stands.1 _ stands.2 c.requires.ready.unspoilt c.requires.ready.late refl (as_was old new refl (λ key. refl)) (Stands-same _) (λ d err. cc) (λ s err. cc);
       content = λ key. refl;
       answer = tt;
       parts = tt;

@@ -3,7 +3,8 @@ use Rattle.soft_index.specs.declared.log_store.LogStore.{LogStore}
 use Rattle.soft_index.specs.Store.{content_of}
 use Rattle.cache_model.specs.declared.replies.Turned.{Turned}
 use Rattle.cache_model.specs.declared.replies.Turned.TheVariants.{Idle}
-use Rattle.soft_index.proofs.Images.{still_acts, as_was}
+use Rattle.cache_disk.proofs.Runs.{Stands-same}
+use Rattle.soft_index.proofs.Changes.{still_acts, as_was}
 use Rattle.soft_index.proofs.Changes.{idle_step}
 use Rattle.soft_index.proofs.store.LogStoreStore.step.Goals as goal
 
@@ -13,7 +14,7 @@ returns-clause-told g c told =
     let new : LogStore = record old { latest = c.args.moment } in
     let stands = c.requires.stands told in
     record {
-      acts = still_acts {R = Turned} old new (g.H.Host.state c.args.host.now) c.args.moment (content_of old) stands.0 stands.1 (Ok Idle) stands.2 c.requires.ready.unspoilt c.requires.ready.late refl c.requires.ready.usable.log (as_was old new refl refl refl refl (λ key. refl)) (λ d err. cc) (λ s err. cc);
+      acts = still_acts {R = Turned} old new (g.H.Host.state c.args.host.now) (g.H.Host.state c.args.host.now) c.args.moment (content_of old) stands.0 stands.1 (Ok Idle) stands.2 c.requires.ready.unspoilt c.requires.ready.late refl (as_was old new refl (λ key. refl)) (Stands-same _) (λ d err. cc) (λ s err. cc);
       content = λ key. inl refl;
       marks = λ key r m may. inl refl;
       parts = idle_step c.args.kind _ c.in_default.not-Rotate;

@@ -1,0 +1,264 @@
+-- What a store stands for after a seal, a rotation or a change.
+use Rattle.std.proofs.Common.{◌≡◌, ◌⊎◌, ⊎_elim, inl, inr, ℕ, ◌+◌, ◌≤◌, ◌<◌, true, false, Bool, List, [], ◌∷◌, ◌++◌, Option, Some, None, Contains, IsSome, is_some, refl, sym, ◌∙◌, ap, subst, arith}
+use Rattle.std.proofs.lemmas.List.{append-nil}
+use Rattle.std.proofs.lemmas.List.Elements.{Contains-append_left, Contains-push_cases}
+use Rattle.cache_model.specs.declared.entries.Change.{Change}
+use Rattle.cache_model.specs.declared.files.FileName.{FileName}
+use Rattle.cache_model.proofs.Grammar.{counts-file}
+use Rattle.cache_model.specs.Files.{Image, file_in, is_name}
+use Rattle.cache_model.specs.Items.{Item, end}
+use Rattle.cache_model.specs.DataFiles.{Frame, CountsFrames, AreFrames, IsUndamaged, placed_frames, file_spelling}
+use Rattle.cache_model.specs.Images.{log_name, IsCounted, key_of, sequence_of}
+use Rattle.cache_disk.specs.State.{HostState, Moves, SameBut}
+use Rattle.cache_disk.specs.Calls.{OnFile, AllLeft, HasFile}
+use Rattle.cache_disk.proofs.Runs.{left_still}
+use Rattle.data_file.specs.Appending.{sealed, next_place, written}
+use Rattle.data_file.proofs.Bytes.{written-none}
+use Rattle.data_file.proofs.Frame.{placed_of, placed-sealed}
+use Rattle.append_log.specs.Current.{files_of, store_of}
+use Rattle.append_log.specs.Standing.{IsClosedIn, waits}
+use Rattle.append_log.specs.Calls.{OnFiles, SameBeside}
+use Rattle.append_log.proofs.Holding.{none_waits, next_most}
+use Rattle.store_trait.specs.Meaning.{Reading, Content, read_in, changed}
+use Rattle.store_trait.specs.Keeping.{SameContent}
+use Rattle.soft_index.specs.declared.log_store.LogStore.{LogStore}
+use Rattle.soft_index.specs.Store.{item_by, closed_frames, HasReading, Holds, HoldsLog, SameOthers, IsNamed, LogStands, content_of, main_files, next_of, number, waiting, writer}
+use Rattle.soft_index.specs.Laws.{cases_file, reading-same, holds-there}
+use Rattle.soft_index.proofs.Counting.{counted-within, counted-there, undamaged-counted}
+use Rattle.soft_index.proofs.Images.{above_more, mark_more, other_name, reading_more}
+
+-- what counts, once what waits is sealed: the end of the frame besides
+
+module _ (file : ℕ) (frames : List Frame) (records : List Item) (moment : ℕ) (files : Image) where
+  all_sealed : placed_of (sealed frames records moment) [] ≡ placed_of frames records ++ (next_place frames records, end moment) ∷ []
+  all_sealed = append-nil (placed_frames 2 (sealed frames records moment)) ∙ placed-sealed frames records moment
+
+  sealed_kept : (n at : ℕ) (item : Item) → Holds file (placed_of frames records) files n at item → Holds file (placed_of (sealed frames records moment) []) files n at item
+  sealed_kept n at item (inl here) =
+      inl (
+        here.0,
+        subst (λ (l : List (ℕ × Item)). Contains l (at, item)) (sym all_sealed) (Contains-append_left (placed_of frames records) ((next_place frames records, end moment) ∷ []) (at, item) here.1),
+      )
+  sealed_kept n at item (inr other) = inr other
+
+  sealed_only : (n at : ℕ) (item : Item) → Holds file (placed_of (sealed frames records moment) []) files n at item → Holds file (placed_of frames records) files n at item ⊎ (item ≡ end moment)
+  sealed_only n at item (inl here) =
+      ⊎_elim
+      (λ was. inl (inl (here.0, was)))
+      (λ is. inr (ap (λ (p : ℕ × Item). p.1) (sym is)))
+      (Contains-push_cases (placed_of frames records) (next_place frames records, end moment) (at, item) (subst (λ (l : List (ℕ × Item)). Contains l (at, item)) all_sealed here.1))
+  sealed_only n at item (inr other) = inl (inr other)
+
+  pub closed_kept : (u : Bool) → u ≡ waits records → (n at : ℕ) (item : Item) → Holds file (placed_of frames records) files n at item → Holds file (placed_of (closed_frames u frames records moment) []) files n at item
+  closed_kept true is n at item holds = sealed_kept n at item holds
+  closed_kept false is n at item holds = subst (λ (l : List Item). Holds file (placed_of frames l) files n at item) (none_waits records (sym is)) holds
+
+  pub closed_only : (u : Bool) → u ≡ waits records → (n at : ℕ) (item : Item) → Holds file (placed_of (closed_frames u frames records moment) []) files n at item → Holds file (placed_of frames records) files n at item ⊎ (item ≡ end moment)
+  closed_only true is n at item holds = sealed_only n at item holds
+  closed_only false is n at item holds = inl (subst (λ (l : List Item). Holds file (placed_of frames l) files n at item) (sym (none_waits records (sym is))) holds)
+
+-- a call on the current file
+
+module _ (S T : LogStore) (a b : HostState) (frames : List Frame) (records : List Item) (P : List ℕ → Type 0)
+    (stands : LogStands S a frames records)
+    (file : number T ≡ number S)
+    (moves : Moves a b (OnFile (log_name (number S)) P))
+    (same : SameBut (log_name (number S)) a.files b.files) where
+  others_after : SameOthers (number S) a.files b.files
+  others_after n other = same (log_name n) (other_name (number S) n other)
+
+  others_before : SameOthers (number S) b.files a.files
+  others_before n other = sym (others_after n other)
+
+  images_after : AllLeft b (λ image. SameOthers (number S) b.files image)
+  images_after =
+      left_still a b (OnFile (log_name (number S)) P) (λ image. SameOthers (number S) b.files image) moves
+      (λ image left n other. stands.others image left n other ∙ sym (others_after n other))
+      (λ d m is step n other. step.others (log_name n) (other_name (number S) n other) ∙ is n other)
+
+  stands_after : (fs : List Frame) (rs : List Item)
+      → store_of (files_of T.log) ≡ 0 → HoldsLog (main_files T) b fs rs → IsNamed 0 (writer T) (number T)
+      → ((key : List ℕ) → HasReading (Holds (number S) (placed_of fs rs) a.files) key (read_in (content_of T) key))
+      → ((n at : ℕ) (item : Item) (key : List ℕ) → Holds (number S) (placed_of fs rs) a.files n at item → key_of item ≡ Some key → sequence_of item < next_of T)
+      → ((n at m : ℕ) → Holds (number S) (placed_of fs rs) a.files n at (end m) → m ≤ T.latest)
+      → LogStands T b fs rs
+  stands_after fs rs main log named content above mark = record {
+    main = main;
+    log = log;
+    named = named;
+    others = subst (λ (f : ℕ). AllLeft b (λ image. SameOthers f b.files image)) (sym file) images_after;
+    sound = λ n bytes other there. let apart = λ (is : n ≡ number S). other (is ∙ sym file) in stands.sound n bytes apart (sym (others_after n apart) ∙ there);
+    content = λ key.
+        subst (λ (f : ℕ). HasReading (Holds f (placed_of fs rs) b.files) key (read_in (content_of T) key)) (sym file)
+        (reading-same (Holds (number S) (placed_of fs rs) a.files) (Holds (number S) (placed_of fs rs) b.files) key (read_in (content_of T) key)
+        (λ n at item of_key. holds-there (number S) (placed_of fs rs) a.files b.files others_after n at item)
+        (λ n at item of_key. holds-there (number S) (placed_of fs rs) b.files a.files others_before n at item)
+        (content key));
+    above = λ n at item key counted.
+        above n at item key (holds-there (number S) (placed_of fs rs) b.files a.files others_before n at item (subst (λ (f : ℕ). Holds f (placed_of fs rs) b.files n at item) file counted));
+    mark = λ n at m counted.
+        mark n at m (holds-there (number S) (placed_of fs rs) b.files a.files others_before n at (end m) (subst (λ (f : ℕ). Holds f (placed_of fs rs) b.files n at (end m)) file counted));
+  }
+
+  -- the same frames and records
+  pub stands_same : store_of (files_of T.log) ≡ 0 → HoldsLog (main_files T) b frames records → IsNamed 0 (writer T) (number T) → SameContent (content_of S) (content_of T) → next_of T ≡ next_of S → S.latest ≤ T.latest → LogStands T b frames records
+  stands_same main log named content next late =
+      stands_after frames records main log named
+      (λ key. subst (λ (r : Reading). HasReading (Holds (number S) (placed_of frames records) a.files) key r) (sym (content key)) (stands.content key))
+      (λ n at item key counted of_key. omega (arith, stands.above n at item key counted of_key, next))
+      (λ n at m counted. omega (arith, stands.mark n at m counted, late))
+
+  -- one record more
+  pub stands_appended : (change : Change) → store_of (files_of T.log) ≡ 0 → HoldsLog (main_files T) b frames (records ++ item_by (next_of S) change ∷ []) → IsNamed 0 (writer T) (number T)
+      → SameContent (changed change (content_of S)) (content_of T) → next_of T ≡ next_of S + 1 → S.latest ≤ T.latest
+      → LogStands T b frames (records ++ item_by (next_of S) change ∷ [])
+  stands_appended change main log named content next late =
+      stands_after frames (records ++ item_by (next_of S) change ∷ []) main log named
+      (λ key.
+      subst (λ (r : Reading). HasReading (Holds (number S) (placed_of frames (records ++ item_by (next_of S) change ∷ [])) a.files) key r) (sym (content key))
+      (reading_more (number S) (next_of S) frames records a.files change stands.above (content_of S) key (stands.content key)))
+      (λ n at item key counted of_key. omega (arith, above_more (number S) (next_of S) frames records a.files change stands.above n at item key counted of_key, next))
+      (λ n at m counted. omega (arith, mark_more (number S) (next_of S) frames records a.files change S.latest stands.mark n at m counted, late))
+
+  -- what waits is sealed
+  pub stands_sealed : (moment : ℕ) → store_of (files_of T.log) ≡ 0 → HoldsLog (main_files T) b (closed_frames (waiting S) frames records moment) [] → IsNamed 0 (writer T) (number T)
+      → SameContent (content_of S) (content_of T) → next_of T ≡ next_of S → S.latest ≤ moment → T.latest ≡ moment
+      → LogStands T b (closed_frames (waiting S) frames records moment) []
+  stands_sealed moment main log named content next late latest =
+      stands_after (closed_frames (waiting S) frames records moment) [] main log named
+      (λ key.
+      reading-same (Holds (number S) (placed_of frames records) a.files) (Holds (number S) (placed_of (closed_frames (waiting S) frames records moment) []) a.files) key (read_in (content_of T) key)
+      (λ n at item of_key. kept n at item)
+      (λ n at item of_key counted. ⊎_elim (λ was. was) (λ is. let no : None ≡ Some key = ap key_of (sym is) ∙ of_key in cc) (only n at item counted))
+      (subst (λ (r : Reading). HasReading (Holds (number S) (placed_of frames records) a.files) key r) (sym (content key)) (stands.content key)))
+      (λ n at item key counted of_key. ⊎_elim (λ was. omega (arith, stands.above n at item key was of_key, next)) (λ is. let no : None ≡ Some key = ap key_of (sym is) ∙ of_key in cc) (only n at item counted))
+      (λ n at m counted. ⊎_elim (λ was. omega (arith, stands.mark n at m was, late, latest)) (λ is. let one : m ≡ moment = cc in omega (arith, one, latest)) (only n at (end m) counted))
+    where
+      kept : (n at : ℕ) (item : Item) → Holds (number S) (placed_of frames records) a.files n at item → Holds (number S) (placed_of (closed_frames (waiting S) frames records moment) []) a.files n at item
+      kept = closed_kept (number S) frames records moment a.files (waiting S) stands.log.1.pending
+
+      only : (n at : ℕ) (item : Item) → Holds (number S) (placed_of (closed_frames (waiting S) frames records moment) []) a.files n at item → Holds (number S) (placed_of frames records) a.files n at item ⊎ (item ≡ end moment)
+      only = closed_only (number S) frames records moment a.files (waiting S) stands.log.1.pending
+
+-- a call that closes the current file
+
+module _ (S T : LogStore) (a b : HostState) (frames : List Frame) (records : List Item) (moment : ℕ) (P : List ℕ → Type 0)
+    (stands : LogStands S a frames records)
+    (file : number T ≡ number S + 1)
+    (moves : Moves a b (OnFiles (main_files S) true P))
+    (same : SameBeside (main_files S) true a.files b.files)
+    (reads : file_in b.files (log_name (number S)) ≡ Some (written (closed_frames (waiting S) frames records moment) []))
+    (closed : IsClosedIn 0 b (record { number = number S; frames = closed_frames (waiting S) frames records moment })) where
+  abbrev more : List Frame
+  more = closed_frames (waiting S) frames records moment
+
+  counts : CountsFrames more (written more [])
+  counts = subst (λ (l : List ℕ). CountsFrames more l) (sym (written-none more)) (counts-file more closed.in_grammar)
+
+  has : HasFile (log_name (number S)) (CountsFrames more) b.files
+  has = record { bytes = written more []; there = reads; file = counts }
+
+  all : placed_of more [] ≡ placed_frames 2 more
+  all = append-nil (placed_frames 2 more)
+
+  -- no file had the next number
+  none : (n : ℕ) → n ≡ number T → file_in a.files (log_name n) ≡ None
+  none n is = stands.log.1.beyond n (omega (arith, is, file, next_most (writer S) (number S)))
+
+  same_file : (n : ℕ) → (n ≡ number S → ⊥) → (n ≡ number T → ⊥) → file_in b.files (log_name n) ≡ file_in a.files (log_name n)
+  same_file n one other = same (log_name n) (other_name (number S) n one) (λ over. other_name (number S + 1) n (λ is. other (is ∙ sym file)))
+
+  kept : (n at : ℕ) (item : Item) → Holds (number S) (placed_of frames records) a.files n at item → Holds (number T) (placed_of [] []) b.files n at item
+  kept n at item holds = from (closed_kept (number S) frames records moment a.files (waiting S) stands.log.1.pending n at item holds)
+    where
+      from : Holds (number S) (placed_of more []) a.files n at item → Holds (number T) (placed_of [] []) b.files n at item
+      from (inl here) =
+          inr (
+            λ is. omega (arith, is, here.0, file),
+            subst (λ (k : ℕ). IsCounted b.files k at item) (sym here.0)
+                (counted-there (number S) at item more b.files has (subst (λ (l : List (ℕ × Item)). Contains l (at, item)) all here.1)),
+          )
+      from (inr other) =
+          let apart : n ≡ number T → ⊥ = (λ is. let no : None ≡ Some other.1.bytes = sym (none n is) ∙ other.1.there in cc) in
+          inr (apart, record { bytes = other.1.bytes; there = same_file n other.0 apart ∙ other.1.there; counted = other.1.counted })
+
+  only : (n at : ℕ) (item : Item) → Holds (number T) (placed_of [] []) b.files n at item → Holds (number S) (placed_of frames records) a.files n at item ⊎ (item ≡ end moment)
+  only n at item (inl here) = absurd (omega (arith, here.1.1))
+  only n at item (inr other) = ⊎_elim
+      (λ is.
+      closed_only (number S) frames records moment a.files (waiting S) stands.log.1.pending n at item
+      (inl (is, subst (λ (l : List (ℕ × Item)). Contains l (at, item)) (sym all) (counted-within (number S) at item more b.files (inr has) (subst (λ (k : ℕ). IsCounted b.files k at item) is other.1)))))
+      (λ apart. inl (inr (apart, record { bytes = other.1.bytes; there = sym (same_file n apart other.0) ∙ other.1.there; counted = other.1.counted })))
+      (cases_file n (number S))
+
+  images : AllLeft b (λ image. SameOthers (number T) b.files image)
+  images image left n other = ⊎_elim
+      (λ is. subst (λ (k : ℕ). file_in image (log_name k) ≡ file_in b.files (log_name k)) (sym is) (closed.stays there image left ∙ sym known))
+      (λ apart.
+      left_still a b (OnFiles (main_files S) true P) (λ c. file_in c (log_name n) ≡ file_in b.files (log_name n)) moves
+      (λ c was. stands.others c was n apart ∙ sym (same_file n apart other))
+      (λ d m was step. step.others (log_name n) (other_name (number S) n apart) (λ over. other_name (number S + 1) n (λ is. other (is ∙ sym file))) ∙ was)
+      image left)
+      (cases_file n (number S))
+    where
+      known : file_in b.files (log_name (number S)) ≡ Some (file_spelling more)
+      known = reads ∙ ap (λ (l : List ℕ). Some l) (written-none more)
+
+      there : IsSome (file_in b.files (log_name (number S)))
+      there = subst (λ (found : Option (List ℕ)). IsSome found) (sym known) refl
+
+  sound : (n : ℕ) (bytes : List ℕ) → (n ≡ number T → ⊥) → file_in b.files (log_name n) ≡ Some bytes → IsUndamaged bytes
+  sound n bytes other is = ⊎_elim
+      (λ here.
+      let both : Some (written more []) ≡ Some bytes = sym reads ∙ ap (λ (k : ℕ). file_in b.files (log_name k)) (sym here) ∙ is in
+      let one : written more [] ≡ bytes = cc in
+      subst (λ (l : List ℕ). IsUndamaged l) one (undamaged-counted more (written more []) counts))
+      (λ apart. stands.sound n bytes apart (sym (same_file n apart other) ∙ is))
+      (cases_file n (number S))
+
+  before_content : (key : List ℕ) → HasReading (Holds (number T) (placed_of [] []) b.files) key (read_in (content_of S) key)
+  before_content key =
+      reading-same (Holds (number S) (placed_of frames records) a.files) (Holds (number T) (placed_of [] []) b.files) key (read_in (content_of S) key)
+      (λ n at item of_key. kept n at item)
+      (λ n at item of_key counted. ⊎_elim (λ was. was) (λ is. let no : None ≡ Some key = ap key_of (sym is) ∙ of_key in cc) (only n at item counted))
+      (stands.content key)
+
+  before_above : (n at : ℕ) (item : Item) (key : List ℕ) → Holds (number T) (placed_of [] []) b.files n at item → key_of item ≡ Some key → sequence_of item < next_of S
+  before_above n at item key counted of_key =
+      ⊎_elim (λ was. stands.above n at item key was of_key) (λ is. let no : None ≡ Some key = ap key_of (sym is) ∙ of_key in cc) (only n at item counted)
+
+  before_mark : S.latest ≤ moment → (n at m : ℕ) → Holds (number T) (placed_of [] []) b.files n at (end m) → m ≤ moment
+  before_mark late n at m counted =
+      ⊎_elim (λ was. omega (arith, stands.mark n at m was, late)) (λ is. let one : m ≡ moment = cc in omega (arith, one)) (only n at (end m) counted)
+
+  -- the next one isn't made yet
+  pub stands_rotated : store_of (files_of T.log) ≡ 0 → HoldsLog (main_files T) b [] [] → IsNamed 0 (writer T) (number T)
+      → SameContent (content_of S) (content_of T) → next_of T ≡ next_of S → S.latest ≤ moment → T.latest ≡ moment
+      → LogStands T b [] []
+  stands_rotated main log named content next late latest = record {
+    main = main;
+    log = log;
+    named = named;
+    others = images;
+    sound = sound;
+    content = λ key. subst (λ (r : Reading). HasReading (Holds (number T) (placed_of [] []) b.files) key r) (sym (content key)) (before_content key);
+    above = λ n at item key counted of_key. omega (arith, before_above n at item key counted of_key, next);
+    mark = λ n at m counted. omega (arith, before_mark late n at m counted, latest);
+  }
+
+  -- the next one holds the record of a change
+  pub stands_behind : (change : Change) → store_of (files_of T.log) ≡ 0 → HoldsLog (main_files T) b [] (item_by (next_of S) change ∷ []) → IsNamed 0 (writer T) (number T)
+      → SameContent (changed change (content_of S)) (content_of T) → next_of T ≡ next_of S + 1 → S.latest ≤ moment → T.latest ≡ moment
+      → LogStands T b [] (item_by (next_of S) change ∷ [])
+  stands_behind change main log named content next late latest = record {
+    main = main;
+    log = log;
+    named = named;
+    others = images;
+    sound = sound;
+    content = λ key.
+        subst (λ (r : Reading). HasReading (Holds (number T) (placed_of [] (item_by (next_of S) change ∷ [])) b.files) key r) (sym (content key))
+        (reading_more (number T) (next_of S) [] [] b.files change before_above (content_of S) key (before_content key));
+    above = λ n at item key counted of_key. omega (arith, above_more (number T) (next_of S) [] [] b.files change before_above n at item key counted of_key, next);
+    mark = λ n at m counted. omega (arith, mark_more (number T) (next_of S) [] [] b.files change moment (before_mark late) n at m counted, latest);
+  }
