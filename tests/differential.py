@@ -56,6 +56,8 @@ class Plain:
 
     def __init__(self, entries, moment):
         self.entries, self.moment = dict(entries), moment
+        # Whether a data file is being written.
+        self.writes = False
 
     def seen(self, key):
         """The value of a key, None where it isn't visible."""
@@ -66,6 +68,7 @@ class Plain:
         return sorted(key for key in self.entries if self.seen(key) is not None)
 
     def change(self, changes):
+        self.writes = self.writes or bool(changes)
         for key, entry in changes.items():
             if entry is None:
                 self.entries.pop(key, None)
@@ -120,6 +123,14 @@ class Plain:
         keys = self.seen_keys()
         return b"cleared %d" % len(keys), dict.fromkeys(keys)
 
+    def sync(self):
+        return b"ok", {}
+
+    def rotate(self):
+        answer = b"done" if self.writes else b"idle"
+        self.writes = False
+        return answer, {}
+
     def stop(self):
         return b"stopped", {}
 
@@ -168,7 +179,7 @@ class Drawn:
         if name == "at":
             wanted = max(0, moment + self.choice.randrange(-3, 6))
             return [b"%d" % wanted], [wanted]
-        if name in ("size", "keys", "clear", "stop", "halt"):
+        if name in ("size", "keys", "clear", "sync", "rotate", "stop", "halt"):
             return [], []
         given = [self.key()]
         if name in ("replaceif", "removeif"):
@@ -186,6 +197,8 @@ class Drawn:
             return self.choice.choice(["stop", "halt"])
         if drawn < 0.15:
             return self.choice.choice(["size", "keys", "clear"])
+        if drawn < 0.22:
+            return self.choice.choice(["sync", "sync", "rotate"])
         kept = ["put", "putabsent", "replace", "replaceif", "get", "has", "remove", "removeif", "at"]
         return self.choice.choice(kept)
 
@@ -199,7 +212,7 @@ class Drawn:
             else:
                 name = self.name()
                 words, given = self.arguments(name, plain.moment)
-                text = b" ".join([name.encode(), *words])
+                text = b" ".join([b"step rotate" if name == "rotate" else name.encode(), *words])
                 answer, changes = getattr(plain, name)(*given)
                 plain.change(changes)
             done.append((text, answer, changes, plain.moment))
@@ -226,6 +239,7 @@ def answered(lines):
 def whole_run(folder, drawn):
     """One run to its end on a folder, whatever it holds."""
     held, mark = held_in(folder)
+    synced = support.draw_settings(folder, drawn.choice)
     given = drawn.choice.randrange(20)
     lines = drawn.lines(Plain(held, max(given, mark)))
     status, said, errors = support.run([folder, "--at", str(given)], drawn.script(lines))
@@ -236,21 +250,28 @@ def whole_run(folder, drawn):
     for text, got, want in zip(asked, said.split(b"\n"), wanted):
         equal(got, want, f"the answer to {text[:200]!r}")
     equal(said.count(b"\n"), len(wanted) - 1, "the number of answers")
-    check_left(folder, held, mark, lines[: len(answers)], len(answers))
+    check_left(folder, held, mark, lines[: len(answers)], answers, synced)
 
 
 def after(held, lines):
-    """The entries that each key had in turn, from what was held on."""
-    entries = {key: [held.get(key)] for key in {*KEYS, *held}}
+    """The entries after so many of the lines, for each number of them."""
+    entries = [dict(held)]
     for _, _, changes, _ in lines:
-        for key, entry in changes.items():
-            entries[key].append(entry)
+        entries.append({**entries[-1], **changes})
     return entries
+
+
+def promised(lines, synced):
+    """How many of the lines that were answered are promised."""
+    if synced:
+        return len(lines)
+    return max((at for at, (text, *_) in enumerate(lines, start=1) if text == b"sync"), default=0)
 
 
 def killed_run(folder, drawn):
     """One run on a folder that is killed at some point. What the files have then fits what was answered."""
     held, mark = held_in(folder)
+    synced = support.draw_settings(folder, drawn.choice)
     given = drawn.choice.randrange(20)
     lines = drawn.lines(Plain(held, max(given, mark)))
     words = [folder, "--at", str(given)]
@@ -264,21 +285,27 @@ def killed_run(folder, drawn):
     equal(said, wanted[: len(said)], "what was said")
     # Of an answer that is longer than what the output takes at once a part may have been said.
     equal(part, wanted[len(said)][: len(part)], "the part of an answer")
-    check_left(folder, held, mark, lines[: len(answers)], len(said) - 1)
+    check_left(folder, held, mark, lines[: len(answers)], said[1:], synced)
 
 
-def check_left(folder, held, mark, lines, count):
-    """Asks what the files have after so many lines were answered, with the next one in hand."""
+def check_left(folder, held, mark, lines, answers, synced):
+    """Asks what the files have after these answers, with the next line in hand: all keys have what they had after one
+    number of lines, no less than are promised. Of the keys of one `clear` any may be removed first."""
     found, found_mark = held_in(folder)
-    promised, possible = after(held, lines[:count]), after(held, lines[: count + 1])
-    for key in possible:
-        allowed = possible[key][len(promised[key]) - 1 :]
-        if found.get(key) not in allowed:
-            raise Failed(f"after {count} answers the files have {found.get(key)!r} of {key!r}, none of {allowed!r}")
+    count = len(answers)
+    least = promised(lines[:count], synced or answers[-1:] == [b"stopped"])
+    entries = after(held, lines[: count + 1])
+    cuts = zip(entries[least:], [*entries[least + 1 :], entries[-1]])
+    keys = {*found, *entries[-1]}
+    if not any(all(found.get(key) in (one.get(key), other.get(key)) for key in keys) for one, other in cuts):
+        raise Failed(f"after {count} answers the files have {found!r}, which is after no number of lines from {least} on")
     moments = [mark, *[moment for _, _, changes, moment in lines[:count] if changes]]
     in_hand = [moment for _, _, changes, moment in lines[count : count + 1] if changes]
-    if found_mark not in (max(moments), max([*moments, *in_hand])):
+    if synced and found_mark not in (max(moments), max([*moments, *in_hand])):
         raise Failed(f"after {count} answers the mark is {found_mark}, not one of {max(moments)} and {in_hand}")
+    every = [mark, *[moment for _, _, _, moment in lines[: count + 1]]]
+    if not mark <= found_mark <= max(every):
+        raise Failed(f"after {count} answers the mark is {found_mark}, not from {mark} to {max(every)}")
 
 
 def draw_folders(folder, take_run, seconds=SECONDS):
@@ -303,8 +330,8 @@ def test_drawn_scripts(folder):
 
 
 def test_drawn_kills(folder):
-    """After a run is killed at any point, each key reads as after its answered changes or the one in hand, and the next
-    run goes on from there."""
+    """After a run is killed at any point, all keys read as after one number of its lines: the answered ones or the one in
+    hand too, and where writes aren't synced as many as a sync was answered for at least. The next run goes on from there."""
 
     def take_run(place, drawn):
         killed_run(place, drawn)

@@ -14,7 +14,7 @@ KILLS, SECONDS = 200, 20
 
 KEYS = [b"moss", b"fern", b"reed"]
 
-# More puts than are done before the longest wait is over.
+# More puts than are mostly done before the longest wait is over.
 PUTS = 1000
 
 
@@ -26,15 +26,44 @@ def puts_of(round):
     ]
 
 
-def script_of(puts):
-    return b"".join(b"put %s %s\n" % put for put in puts)
+def lines_of(puts, choice):
+    """The lines of some puts, each with its answer and the put that it makes, if it makes one. There are lines `sync` and
+    `step rotate` between them."""
+    lines, writes = [], False
+    for put in puts:
+        lines.append((b"put %s %s" % put, b"ok", put))
+        writes = True
+        while choice.random() < 0.15:
+            if choice.random() < 0.5:
+                lines.append((b"sync", b"ok", None))
+            else:
+                lines.append((b"step rotate", b"done" if writes else b"idle", None))
+                writes = False
+    return lines
+
+
+def held_after(held, lines):
+    """What is held after so many of the lines, for each number of them."""
+    after = [dict(held)]
+    for _, _, put in lines:
+        after.append(dict([*after[-1].items(), put]) if put else after[-1])
+    return after
+
+
+def promised(lines, synced):
+    """How many of the lines that were answered are promised."""
+    if synced:
+        return len(lines)
+    return max((at for at, (text, *_) in enumerate(lines, start=1) if text == b"sync"), default=0)
 
 
 def killed_after(folder, script, answers, wait):
-    """Runs a script, and kills the run so many seconds after so many answers. It gives what was said."""
+    """Runs a script, and kills the run so many seconds after so many answers. It gives what was said, and whether the run
+    ended by itself before."""
     status, said = support.run_and_kill([folder, *AT], script, answers, wait)
-    equal(status, -signal.SIGKILL, "the status")
-    return said
+    if status not in (DONE, -signal.SIGKILL):
+        raise Failed(f"the status is {status}")
+    return said, status == DONE
 
 
 def read_on(folder):
@@ -52,22 +81,65 @@ def read_on(folder):
 
 
 def test_kills_at_many_points(folder):
-    """After a run is killed at any point, a later run reads every put that was answered, and at most the next one."""
+    """After a run is killed at any point, a later run reads all keys as after one number of its lines: the answered ones
+    or the one in hand too, and where writes aren't synced as many as a sync was answered for at least."""
     choice = random.Random(20)
     end = time.monotonic() + SECONDS
     held = dict.fromkeys(KEYS)
     for round in range(KILLS):
-        puts = puts_of(round)
-        # A run is killed from the first answer on, and by then at any point within a put.
-        said = killed_after(folder, script_of(puts), choice.randrange(20), choice.random() * 0.002)
-        answered = said.count(b"ok\n")
-        equal(said, b"opened 1000\n" + b"ok\n" * answered, "what was said")
-        for key, value in puts[:answered]:
-            held[key] = value
-        one_more = dict([*held.items(), puts[answered]])
+        synced = support.draw_settings(folder, choice)
+        lines = lines_of(puts_of(round), choice)
+        script = b"".join(text + b"\n" for text, *_ in lines)
+        # A run is killed from the first answer on, and by then at any point within a line.
+        said, is_done = killed_after(folder, script, choice.randrange(20), choice.random() * 0.002)
+        answered = said.count(b"\n") - 1
+        answers = [*[answer for _, answer, _ in lines], b"stopped"]
+        wanted = [b"opened 1000", *answers[:answered], b""]
+        equal(said.split(b"\n"), wanted, "what was said")
+        least = promised(lines[:answered], synced or is_done)
+        after = held_after(held, lines[: answered + 1])[least:]
         found = read_on(folder)
-        if found not in (held, one_more):
-            raise Failed(f"round {round}, {answered} answers: read {found!r}, not {held!r} or {one_more!r}")
+        if found not in after:
+            raise Failed(f"round {round}, {answered} answers: read {found!r}, none of {after!r}")
         held = found
         if time.monotonic() > end:
             break
+
+
+# The keys of the long script, and how many changes are in each of its halves. The second half has more answers than are
+# said before the run is killed, since nothing reads them.
+MANY_KEYS, HALF = 1000, 50000
+
+
+def many_puts(first, count):
+    return b"".join(b"put k%d v%d\n" % (at % MANY_KEYS, at) for at in range(first, first + count))
+
+
+def read_many(folder, rest=b""):
+    """Reads every key of the long script, and then does the rest of a script. It gives the numbers of the values."""
+    gets = b"".join(b"get k%d\n" % key for key in range(MANY_KEYS))
+    status, said, errors = support.run([folder, *AT], gets + rest)
+    equal((status, errors), (DONE, b""), "status and errors")
+    answers = said.split(b"\n")[1 : 1 + MANY_KEYS]
+    return [int(answer.removeprefix(b"value v")) for answer in answers]
+
+
+def newest_of(count):
+    """The number of the last of so many changes to each key."""
+    return [key + (count - 1 - key) // MANY_KEYS * MANY_KEYS for key in range(MANY_KEYS)]
+
+
+def test_long_script(folder):
+    """Of 100,000 changes without synced writes, over files of 4,096 bytes, none is lost that a sync was answered for: a
+    first run is killed behind the sync between both halves, and a second run does the other half."""
+    support.set_folder(folder, "file_size = 4096\nsync_writes = false\npump = 0\n")
+    script = many_puts(0, HALF) + b"sync\n" + many_puts(HALF, HALF)
+    said, is_done = killed_after(folder, script, HALF + 1, 0)
+    equal(is_done, False, "whether the run ended by itself")
+    *said, part = said.split(b"\n")
+    equal(said, [b"opened 1000"] + [b"ok"] * (len(said) - 1), "what was said")
+    found = read_many(folder, many_puts(HALF, HALF))
+    count = max(found) + 1
+    equal(found, newest_of(count), "what the second run reads")
+    equal(HALF <= count < len(said), True, f"whether {count} changes are read after {len(said) - 1} answers")
+    equal(read_many(folder), newest_of(2 * HALF), "what a later run reads")

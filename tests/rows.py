@@ -1,6 +1,6 @@
 """Worked scripts whose every answer is known from elsewhere."""
 
-from support import DONE, check_words
+from support import DONE, SETTINGS_FILE, check_names, check_words, equal, log_name, set_folder
 
 KEY, VALUE = b"a" * 1024, b"b" * 65536
 
@@ -78,3 +78,42 @@ def test_each_command(folder):
         (b"clear", "cleared 2"),
         (b"size", "size 0"),
     ])
+
+
+def check_sizes(folder, sizes):
+    """Asks for data files of these sizes, from the first one on, and the settings file."""
+    check_names(folder, [SETTINGS_FILE, *map(log_name, range(1, len(sizes) + 1))])
+    for number, size in enumerate(sizes, start=1):
+        equal((folder / log_name(number)).stat().st_size, size, f"the size of {log_name(number)}")
+
+
+def test_writes_that_are_not_synced(folder):
+    """Without synced writes a put counts from the next sync on."""
+    set_folder(folder, "sync_writes = false\npump = 0\n")
+    script = b"put k v1\nsync\nput k v2\nhalt\n"
+    check_words(["--at", "1000"], folder, script, DONE, ["opened 1000", "ok", "ok", "ok", "halted"])
+    check_sizes(folder, [64])
+    check_answers(folder, 1000, [(b"get k", "value v1")])
+
+
+def test_full_files(folder):
+    """A file is filled to the size that is set, and not beyond."""
+    set_folder(folder, "file_size = 4096\npump = 0\n")
+    check_answers(folder, 1000, [
+        (b"put k " + b"a" * 4000, "ok"),
+        (b"put k " + b"b" * 26, "ok"),
+        (b"put k c", "ok"),
+    ])
+    check_sizes(folder, [4096, 37])
+
+
+def test_files_that_are_closed(folder):
+    """A file is closed where there is one."""
+    set_folder(folder, "pump = 0\n")
+    check_answers(folder, 1000, [
+        (b"step rotate", "idle"),
+        (b"put a b", "ok"),
+        (b"step rotate", "done"),
+        (b"step rotate", "idle"),
+    ])
+    check_sizes(folder, [37])

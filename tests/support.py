@@ -18,10 +18,13 @@ PROGRAM = str(TOP / "cache")
 LIMIT = 60
 
 # The statuses that the program ends with.
-DONE, USAGE, DISK_FAILED, SCRIPT_FAILED, SAY_FAILED = 0, 2, 5, 6, 7
+DONE, USAGE, SETTINGS, DISK_FAILED, SCRIPT_FAILED, SAY_FAILED = 0, 2, 3, 5, 6, 7
 
 # The data file that the first put of an empty folder makes.
 FIRST_FILE = "s0-0000000001.log"
+
+# The settings file.
+SETTINGS_FILE = "cache.toml"
 
 NEVER = 2**64 - 1
 
@@ -87,6 +90,19 @@ def check_run(arguments, script, status, said, **how):
 
 def check_words(words, folder, script=b"", status=USAGE, said=()):
     check_run([folder, *words], script, status, said)
+
+
+def set_folder(folder, text):
+    """Gives a folder these settings."""
+    (folder / SETTINGS_FILE).write_text(text)
+
+
+def draw_settings(folder, choice):
+    """Draws the settings of a folder, the defaults among them. It tells whether writes are synced."""
+    sizes, syncs = [None, 4096, 5000, 16384], [None, "true", "false", "false"]
+    drawn = {"file_size": choice.choice(sizes), "sync_writes": choice.choice(syncs)}
+    set_folder(folder, "".join(f"{name} = {value}\n" for name, value in drawn.items() if value is not None))
+    return drawn["sync_writes"] != "false"
 
 
 def names_in(folder):

@@ -1,6 +1,6 @@
 """The words that the program takes, and the folders that it takes."""
 
-from support import DISK_FAILED, DONE, FIRST_FILE, USAGE
+from support import DISK_FAILED, DONE, FIRST_FILE, SETTINGS, SETTINGS_FILE, USAGE
 from support import check_names, check_run, check_words, equal, run
 
 PUT = b"put a b\n"
@@ -60,7 +60,37 @@ FILES = [
     "s255.tree",
     "base0.dat",
     "base1.dat",
-    "cache.toml",
+]
+
+# What may not be in a settings file: no TOML, other names, other types, and values out of their ranges or not built yet.
+BAD_SETTINGS = [
+    b"\x00",
+    b"\xff",
+    b"pump",
+    b"pump = 1\npump = 1",
+    b"pumps = 1",
+    b"[pump]",
+    b"pump = true",
+    b"pump = 1001",
+    b"pump = -1",
+    b"file_size = 4095",
+    b"file_size = 16777217",
+    b"sync_writes = 1",
+    b"sync_writes = \"true\"",
+    b"queue = 7",
+    b"mode = \"behind\"",
+    b"#" * 4097,
+]
+
+# Settings that are taken.
+GOOD_SETTINGS = [
+    b"",
+    b"#" * 4096,
+    b"pump = 0\r\n",
+    b"pump = 1000",
+    b"file_size = 4096\nsync_writes = true\n",
+    b"'file_size' = 16_777_216",
+    b"mode = \"through\" # the default\npublish = \"\"\nactivation = \"keep\"\npreload = false",
 ]
 
 # Names that are none of a file of the store.
@@ -113,13 +143,39 @@ def test_moments(folder):
 
 
 def test_files_that_are_there(folder):
-    """A folder with a file of the store in it is refused with status 2, and the file stays as it is."""
+    """A folder with an index or a base file in it is refused with status 2, and the file stays as it is."""
     for name in FILES:
         (folder / name).write_bytes(b"\x00")
         check_words(["--at", "1"], folder, PUT)
         check_names(folder, [name])
         equal((folder / name).read_bytes(), b"\x00", f"the bytes of {name}")
         (folder / name).unlink()
+
+
+def test_settings_that_are_wrong(folder):
+    """With a settings file that is none the status is 3, nothing is said on either stream, and nothing is written. Bad
+    words come first."""
+    for text in BAD_SETTINGS:
+        (folder / SETTINGS_FILE).write_bytes(text)
+        check_words(["--at", "1"], folder, PUT, SETTINGS)
+        check_words(["--at"], folder, PUT, USAGE)
+        check_names(folder, [SETTINGS_FILE])
+        equal((folder / SETTINGS_FILE).read_bytes(), text, "the bytes of the settings file")
+
+
+def test_settings_that_are_taken(folder):
+    """A settings file of any spelling is taken, and stays as it is."""
+    for text in GOOD_SETTINGS:
+        (folder / SETTINGS_FILE).write_bytes(text)
+        check_words(["--at", "1"], folder, PUT, DONE, ["opened 1", "ok", "stopped"])
+        equal((folder / SETTINGS_FILE).read_bytes(), text, "the bytes of the settings file")
+
+
+def test_settings_that_cannot_be_read(folder):
+    """A folder in the place of the settings file is a failure of the disk: the status is 5 and nothing is said."""
+    (folder / SETTINGS_FILE).mkdir()
+    check_words(["--at", "1"], folder, PUT, DISK_FAILED)
+    check_names(folder, [SETTINGS_FILE])
 
 
 def test_stray_names(folder):
