@@ -1,10 +1,12 @@
 """What tools/show reads of a directory, beside what the program reads of it."""
 
+import concurrent.futures
 import random
 import subprocess
 import sys
 
 import support
+from differential import said_token
 from support import DONE, NEVER, TOP, check_names, equal, log_name, spelled_put
 
 sys.path.append(str(TOP / "tools"))
@@ -14,8 +16,8 @@ import reading
 # The status of the program and of tools/show where a file is damaged.
 DAMAGED = 4
 
-# How many directories are drawn.
-DIRECTORIES = 1_000
+# How many directories are drawn, and how many are checked at a time.
+DIRECTORIES, WORKERS = 1_000, 4
 
 KEYS = [b"a", b"b", b"c", b"\x00", b"%", b"k" * 1024]
 VALUES = [b"", b"1", b"two words", b"v" * 300]
@@ -112,17 +114,8 @@ class Drawn:
 
 
 def write_files(folder, files):
-    """Makes these data files the only ones of a folder."""
-    for path in folder.glob("s0-*.log"):
-        path.unlink()
     for number, data in files.items():
         (folder / log_name(number)).write_bytes(data)
-
-
-def said_token(data):
-    if not data:
-        return b"%."
-    return b"".join(b"%c" % it if 33 <= it <= 126 and it != 37 else b"%%%02x" % it for it in data)
 
 
 def said_values(read, moment):
@@ -153,31 +146,55 @@ def check_read(folder, moment, later, what):
     equal((status, said.splitlines(), errors), (*wanted_of(read, moment, later), b""), what)
 
 
+def check_files(folder, name, files, moment=1, later=1):
+    """Compares what is said and read of a new directory with these files."""
+    place = folder / name
+    place.mkdir()
+    write_files(place, files)
+    check_read(place, moment, later, name)
+
+
+def check_all(folder, cases):
+    """Does so for many directories, several at a time."""
+    with concurrent.futures.ThreadPoolExecutor(WORKERS) as pool:
+        checks = [pool.submit(check_files, folder, *case) for case in cases]
+        try:
+            for check in checks:
+                check.result()
+        finally:
+            pool.shutdown(cancel_futures=True)
+
+
+def drawn_case(seed):
+    drawn = Drawn(seed)
+    return f"seed {seed}", drawn.files(), drawn.choice.randrange(15), drawn.choice.randrange(8)
+
+
 def test_show_reads_directories_as_the_program(folder):
     """Of a thousand drawn directories the program finds the same values, or the same first damage."""
-    for seed in range(support.FIRST_SEED, support.FIRST_SEED + DIRECTORIES):
-        drawn = Drawn(seed)
-        write_files(folder, drawn.files())
-        check_read(folder, drawn.choice.randrange(15), drawn.choice.randrange(8), f"seed {seed}")
+    first = support.FIRST_SEED
+    check_all(folder, map(drawn_case, range(first, first + DIRECTORIES)))
 
 
 def test_show_reads_a_cut_file_as_the_program(folder):
     """Of a small file that is cut at each length the program finds the same values, or the same damage."""
-    for size in range(len(WORKED) + 1):
-        write_files(folder, {1: WORKED[:size]})
-        check_read(folder, 1, 1, f"cut at {size}")
+    check_all(folder, [(f"cut at {size}", {1: WORKED[:size]}) for size in range(len(WORKED) + 1)])
 
 
 def other_bytes(byte):
-    return {0, 1, 2, 0xFF, byte ^ 4} - {byte}
+    return sorted({0, 1, 2, 0xFF, byte ^ 4} - {byte})
+
+
+def altered(data):
+    """Cases of the data with one other byte."""
+    for at, byte in enumerate(data):
+        for other in other_bytes(byte):
+            yield f"{other:02x} at {at}", {1: data[:at] + bytes([other]) + data[at + 1 :]}
 
 
 def test_show_reads_an_altered_file_as_the_program(folder):
     """Of a small file with one other byte the program finds the same values, or the same damage."""
-    for at, byte in enumerate(WORKED):
-        for other in sorted(other_bytes(byte)):
-            write_files(folder, {1: WORKED[:at] + bytes([other]) + WORKED[at + 1 :]})
-            check_read(folder, 1, 1, f"{other:02x} at {at}")
+    check_all(folder, altered(WORKED))
 
 
 def check_show(path, status, text):
