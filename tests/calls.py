@@ -5,7 +5,7 @@ import os
 
 import support
 import tracer
-from support import DISK_FAILED, DONE, FIRST_FILE, SAY_FAILED, check_names, equal, log_name
+from support import DISK_FAILED, DONE, FIRST_FILE, SAY_FAILED, SETTINGS_FILE, check_names, equal, log_name
 
 AT = ["--at", "1000"]
 
@@ -103,19 +103,18 @@ def write_files(folder, count):
 
 
 def test_calls_of_an_opening(folder):
-    """Each data file is opened, synced and read once, in the order of their numbers, however many there are."""
+    """The settings file is looked for, and then each data file is opened, synced and read once, in the order of their
+    numbers, however many there are."""
     count = 200
     write_files(folder, count)
     status, said, calls = calls_of(folder, b"")
     equal((status, said), (DONE, b"opened 1000\nstopped\n"), "the status and what is said")
-    wanted = [
-        (name, log_name(number))
-        for number in range(1, count + 1)
-        for name in ("openat", "fdatasync", "statx", "pread64")
-    ]
+    of_each = ("openat", "fdatasync", "statx", "pread64")
+    wanted = [(name, log_name(number)) for number in range(1, count + 1) for name in of_each]
+    wanted.insert(0, ("statx", SETTINGS_FILE))
     is_file = [(call.name, file_of(call.path, folder)) for call in calls if not says(call)]
     got = [(name, file) for name, file in is_file if file != "folder" and name != "close"]
-    equal(got, wanted, "the calls on the data files")
+    equal(got, wanted, "the calls on the files")
     equal(is_file.count(("fsync", "folder")), 1, "how often the names are synced")
 
 
