@@ -196,12 +196,12 @@ fn run_store<H: Host, I: Source, S: Store<H>>(
     ensures cause { HasCause (H.state host.old) (H.state host.new) (I.faults script.old) (I.faults script.new) result.result }
 {
     let mut session = Session::new(alloc, store, moment);
-    let result = converse(alloc, &mut session, host, script);
+    let result = answer_from_opening(alloc, &mut session, host, script);
     Ran { session, result }
 }
 
 // Says that the directory is open, and answers the script.
-fn converse<H: Host, I: Source, S: Store<H>>(
+fn answer_from_opening<H: Host, I: Source, S: Store<H>>(
     alloc: Global,
     session: &mut Session<S>,
     host: &mut H,

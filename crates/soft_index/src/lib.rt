@@ -5,7 +5,7 @@ mod data_files;
 mod log_store;
 mod newest;
 mod opening;
-mod reading;
+mod scanning;
 mod soft_index;
 mod spelling;
 mod store;

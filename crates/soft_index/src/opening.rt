@@ -17,7 +17,7 @@ ghost use Rattle.soft_index.specs.Store.{AreInRange, IsMadeOf, IsReadFrom, IsOpe
 use crate::data_files::{number_behind, numbers_of};
 use crate::log_store::LogStore;
 use crate::newest::{Newest, Table};
-use crate::reading::settle_all;
+use crate::scanning::settle_all;
 use cache_disk::Host;
 use cache_model::{FileName, Key, Settings, StoreFault};
 use std::alloc::Global;

@@ -7,7 +7,7 @@ use Rattle.cache_disk.proofs.Runs.{Stands-left}
 use Rattle.soft_index.specs.Opening.{IsSettledAll}
 use Rattle.soft_index.proofs.Readings.{read-more}
 use Rattle.soft_index.proofs.Settling.{syncing-more, syncing-stands, settled-more}
-use Rattle.soft_index.proofs.reading.read_all.Goals as goal
+use Rattle.soft_index.proofs.scanning.read_all.Goals as goal
 
 pub loop-number-preserved : goal.loop-number-preserved
 loop-number-preserved g c =

@@ -4,7 +4,7 @@ use Rattle.cache_model.specs.Images.{log_name}
 use Rattle.cache_disk.specs.State.{Stands}
 use Rattle.data_file.specs.Scanning.{scanned_name, is_spoilt, left_of}
 use Rattle.soft_index.proofs.Scans.{Taking}
-use Rattle.soft_index.proofs.reading.take_items.Given as goal
+use Rattle.soft_index.proofs.scanning.take_items.Given as goal
 
 abbrev pub invariant-loop-one : goal.invariant-loop-one
 invariant-loop-one g l = record {

@@ -6,7 +6,7 @@ use Rattle.cache_disk.proofs.Runs.{Stands-trans}
 use Rattle.data_file.specs.declared.scan.Scanned.{Scanned}
 use Rattle.data_file.specs.Scanning.{scanned_name, HasGiven}
 use Rattle.soft_index.proofs.Scans.{bytes-same, taking-more, taking-all}
-use Rattle.soft_index.proofs.reading.take_items.Goals as goal
+use Rattle.soft_index.proofs.scanning.take_items.Goals as goal
 
 pub loop-one-preserved : goal.loop-one-preserved
 loop-one-preserved g c =

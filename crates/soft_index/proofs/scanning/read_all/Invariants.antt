@@ -3,7 +3,7 @@ use Rattle.cache_disk.specs.Calls.{AllLeft}
 use Rattle.soft_index.specs.Opening.{IsSettledAll}
 use Rattle.soft_index.proofs.Readings.{HaveRead}
 use Rattle.soft_index.proofs.Settling.{Syncing}
-use Rattle.soft_index.proofs.reading.read_all.Given as goal
+use Rattle.soft_index.proofs.scanning.read_all.Given as goal
 
 abbrev pub invariant-loop-number : goal.invariant-loop-number
 invariant-loop-number g l = record {

@@ -4,7 +4,7 @@ use Rattle.cache_session.specs.Turns.{store_of}
 use Rattle.cache_cli.specs.Run.{view_by}
 use Rattle.cache_cli.specs.Opening.{first_talk}
 use Rattle.cache_cli.proofs.Beginning.{in_hand_opened, finished_unopened, finished_unsaid, finished_untaken, talks_new, ran_finished}
-use Rattle.cache_cli.proofs.serve.converse.Goals as goal
+use Rattle.cache_cli.proofs.serve.answer_from_opening.Goals as goal
 
 pub returns-in_default-clause-finished : goal.returns-in_default-clause-finished
 returns-in_default-clause-finished g c = λ tells told course ordered lines begins.
