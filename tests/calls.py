@@ -95,6 +95,36 @@ def test_calls_of_puts(folder):
     equal(calls, wanted, "the calls")
 
 
+def test_calls_of_puts_without_syncs(folder):
+    """Where changes aren't synced at once a put costs one write and no sync, the first of a file aside; a sync ends the
+    frame, and costs nothing where nothing waits for it."""
+    (folder / SETTINGS_FILE).write_bytes(b"sync_writes = false\n")
+    calls = shown_calls(folder, b"put a b\nput c d\nsync\nsync\n")
+    wanted = [
+        f"open {SETTINGS_FILE}",
+        "open folder",
+        "sync folder",
+        r"say b'opened 1000\n'",
+        f"make {FIRST_FILE}",
+        f"write 00 at 0 of {FIRST_FILE}",
+        f"sync {FIRST_FILE}",
+        "sync folder",
+        f"write 01 at 1 of {FIRST_FILE}",
+        f"write 010000000000000001ffffffffffffffff0001000000016162 at 2 of {FIRST_FILE}",
+        r"say b'ok\n'",
+        f"write 010000000000000002ffffffffffffffff0001000000016364 at 27 of {FIRST_FILE}",
+        r"say b'ok\n'",
+        f"write 0000000000000003e800 at 52 of {FIRST_FILE}",
+        f"sync {FIRST_FILE}",
+        f"write 01 at 0 of {FIRST_FILE}",
+        f"sync {FIRST_FILE}",
+        r"say b'ok\n'",
+        r"say b'ok\n'",
+        r"say b'stopped\n'",
+    ]
+    equal(calls, wanted, "the calls")
+
+
 def write_files(folder, count):
     """So many data files, each with a put of a key of its own."""
     for number in range(1, count + 1):
