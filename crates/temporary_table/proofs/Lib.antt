@@ -1,0 +1,5 @@
+pub mod Ordered
+pub mod Refilling
+pub mod Moving
+pub mod Keeping
+pub mod Walks

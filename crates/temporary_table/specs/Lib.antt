@@ -1,0 +1,5 @@
+pub mod Queue
+pub mod Places
+pub mod Walking
+pub mod Buckets
+pub mod Searching
