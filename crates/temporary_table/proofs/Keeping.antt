@@ -4,17 +4,16 @@ use Rattle.std.specs.Prelude.{is_some, IsSome, cond, ◌==◌, ◌&&◌, Result,
 use Rattle.std.specs.List.{AllByRecursion}
 use Rattle.std.specs.List.Sorted.{IsStrictlySortedBy}
 use Rattle.std.specs.Map.{lookup, keys_of}
-use Rattle.std.specs.BTreeMap.{BTreeMap, IsOrdered, get}
+use Rattle.std.specs.BTreeMap.{get}
 use Rattle.std.specs.Str.{bytes_eq}
 use Rattle.std.specs.Ordering.{nat_cmp, is_eq}
-use Rattle.std.specs.declared.cmp.Ordering.TheVariants.{Less}
 use Rattle.std.proofs.lemmas.Map.Keys.{sorted_head, sorted_tail}
 use Rattle.std.proofs.lemmas.Map.Lookups.{exact_unsigned}
 use Rattle.std.proofs.lemmas.Cmp.{nat_cmp_total}
 use Rattle.std.proofs.lemmas.Slice.Eq.{bytes_eq-Decides}
 use Rattle.cache_model.specs.Hash.{hash}
 use Rattle.temporary_table.specs.Places.{Seat, Places, seat_of, Reseats, Stays, seated, unseated}
-use Rattle.temporary_table.specs.Buckets.{Bucket, Buckets, key_cmp, seat_in, seat_at, seats_in, AreOrdered, Moves, IsKeptWell, places_of}
+use Rattle.temporary_table.specs.Buckets.{Bucket, Buckets, key_cmp, seat_in, seat_at, seats_in, Moves, IsKeptWell, places_of}
 use Rattle.temporary_table.specs.declared.table.Table.TheInside.{Inside}
 use Rattle.temporary_table.specs.Walking.{earlier}
 use Rattle.temporary_table.proofs.Ordered.{at, same, itself, none_behind, skip}

@@ -3,3 +3,4 @@ pub mod Refilling
 pub mod Moving
 pub mod Keeping
 pub mod Walks
+pub mod Scans

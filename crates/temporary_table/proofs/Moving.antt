@@ -1,11 +1,10 @@
 -- All buckets, after one seat became another.
 use Rattle.std.proofs.Common.{◌≡◌, ℕ, Bool, true, false, List, Option, Some, None, refl, sym, ◌∙◌, ap, subst}
-use Rattle.std.specs.Prelude.{is_some, IsSome, cond, ◌==◌, ◌&&◌}
-use Rattle.std.specs.BTreeMap.{BTreeMap, Updates, IsOrdered, get}
+use Rattle.std.specs.Prelude.{cond, ◌==◌, ◌&&◌}
+use Rattle.std.specs.BTreeMap.{Updates, IsOrdered, get}
 use Rattle.std.specs.Str.{bytes_eq}
 use Rattle.std.specs.Ordering.{nat_cmp, is_eq}
 use Rattle.std.proofs.lemmas.Map.Lookups.{exact_unsigned}
-use Rattle.std.proofs.lemmas.Cmp.{nat_cmp_total}
 use Rattle.std.proofs.lemmas.Slice.Eq.{bytes_eq-Decides}
 use Rattle.temporary_table.specs.Places.{Seat}
 use Rattle.temporary_table.specs.Buckets.{Bucket, Buckets, key_cmp, seat_in, seat_at, AreOrdered, Refills, Fills, Moves}

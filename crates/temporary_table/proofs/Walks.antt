@@ -2,24 +2,23 @@
 use Rattle.std.proofs.Common.{◌≡◌, ◌⊎◌, inl, inr, ⊎_elim, ℕ, Bool, true, false, List, [], ◌∷◌, Option, Some, None, refl, sym, ◌∙◌, ap, subst, arith}
 use Rattle.std.specs.Prelude.{is_some, IsSome, cond, ◌==◌, ◌&&◌, nat_lt, if◌then◌else◌}
 use Rattle.std.specs.List.{filter}
-use Rattle.std.specs.BTreeMap.{BTreeMap, IsOrdered, get}
-use Rattle.std.specs.BTreeMap.Range.{entries_between, range_contains}
+use Rattle.std.specs.BTreeMap.{IsOrdered, get}
+use Rattle.std.specs.BTreeMap.Range.{range_contains}
 use Rattle.std.specs.declared.ops.Bound.{Bound}
 use Rattle.std.specs.declared.ops.Bound.TheVariants.{Excluded, Unbounded}
 use Rattle.std.specs.declared.cmp.Ordering.{Ordering}
 use Rattle.std.specs.declared.cmp.Ordering.TheVariants.{Less, Equal, Greater}
-use Rattle.std.specs.Ordering.{nat_cmp, is_eq, is_lt}
+use Rattle.std.specs.Ordering.{nat_cmp, is_lt}
 use Rattle.std.proofs.lemmas.Map.Lookups.{exact_unsigned, exact_bytes}
 use Rattle.std.proofs.lemmas.Cmp.{nat_cmp_total, nat_list_cmp_total}
 use Rattle.std.proofs.lemmas.Bool.Decides.{nat_tests}
-use Rattle.cache_model.specs.Hash.{hash, precedes, follows}
-use Rattle.temporary_table.specs.Places.{Seat, seat_of, placed, place_of}
-use Rattle.temporary_table.specs.Buckets.{Bucket, Buckets, key_cmp, seat_in, seat_at, IsKeptWell, places_of}
+use Rattle.cache_model.specs.Hash.{hash, precedes}
+use Rattle.temporary_table.specs.Places.{Seat, placed, place_of}
+use Rattle.temporary_table.specs.Buckets.{Bucket, key_cmp, seat_in, seat_at, IsKeptWell, places_of}
 use Rattle.temporary_table.specs.declared.table.Table.TheInside.{Inside}
 use Rattle.temporary_table.specs.Walking.{IsAhead, IsNextPlaced, earlier, first_by}
 use Rattle.temporary_table.specs.Searching.{start_after, placed_key, first_in, first_of, first_beside, first_from, next_in}
 use Rattle.temporary_table.proofs.Ordered.{at, IsFirst, first_is, first_none, not_none, never}
-use Rattle.temporary_table.proofs.Refilling.{hash_test}
 use Rattle.temporary_table.proofs.Keeping.{reads}
 
 -- a filtered list gives first what the whole list gives where the test is passed
@@ -94,12 +93,12 @@ bucket_none bucket start other is has within = by (there_of (get key_cmp bucket 
 
 -- walk order, by the hashes and the keys
 
-less_of : (o : Ordering) → is_lt o ≡ true → o ≡ Less
+pub less_of : (o : Ordering) → is_lt o ≡ true → o ≡ Less
 less_of Less is = refl
 less_of Equal is = cc
 less_of Greater is = cc
 
-lower_test : (m n : ℕ) → is_lt (nat_cmp m n) ≡ nat_lt m n
+pub lower_test : (m n : ℕ) → is_lt (nat_cmp m n) ≡ nat_lt m n
 lower_test m n = by (m == n) (nat_lt m n)
   where
     by : (b a : Bool) → is_lt (cond a Less (cond b Equal Greater)) ≡ a
@@ -107,7 +106,7 @@ lower_test m n = by (m == n) (nat_lt m n)
     by true false = refl
     by false false = refl
 
-not_both : (m n : ℕ) → (m == n) ≡ true → nat_lt m n ≡ true → ⊥
+pub not_both : (m n : ℕ) → (m == n) ≡ true → nat_lt m n ≡ true → ⊥
 not_both m n is less = grind (arith, nat_tests)
 
 precedes_within : (bits : ℕ) (one other : List ℕ) → hash bits one ≡ hash bits other → is_lt (key_cmp one other) ≡ true → precedes bits one other ≡ true

@@ -3,3 +3,4 @@ pub mod Places
 pub mod Walking
 pub mod Buckets
 pub mod Searching
+pub mod Scanning

@@ -3,7 +3,11 @@
 
 mod buckets;
 mod requests;
+mod scanning;
 mod table;
 
 pub use requests::{Request, Requests};
 pub use table::Table;
+
+#[cfg(test)]
+mod tests;

@@ -1,5 +1,5 @@
 // The requests that wait for the index.
-ghost use Rattle.std.specs.Prelude.{◌≡◌, ◌≤◌, ◌<◌, ◌++◌, ◌==◌, List, [], ◌∷◌, length, None, Some, IfOk, IfErr, option_to_list, count_by};
+ghost use Rattle.std.specs.Prelude.{◌≡◌, ◌↔◌, ◌≤◌, ◌<◌, ◌++◌, ◌==◌, IsTrue, List, [], ◌∷◌, length, None, Some, IfOk, IfErr, option_to_list, count_by};
 ghost use Rattle.cache_model.specs.declared.faults.ModelFault.TheVariants.{Memory};
 ghost use Rattle.temporary_table.specs.Queue.{key_of, raises, lowers, pushed};
 
@@ -90,14 +90,15 @@ impl Requests {
 
     /// Whether as many wait as may.
     pub fn is_full(&self) -> bool
-        ensures full { result ≡ (length self.now.waiting == self.now.limit) }
+        ensures full { IsTrue result ↔ (self.now.limit ≤ length self.now.waiting) }
     {
-        self.queue.len() == self.limit
+        self.queue.len() >= self.limit
     }
 
     /// How many wait.
     pub fn len(&self) -> usize
         ensures len { result ≡ length self.now.waiting }
+        ensures within { result ≤ self.now.limit }
     {
         self.queue.len()
     }

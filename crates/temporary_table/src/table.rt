@@ -9,6 +9,7 @@ use crate::buckets::{
     Buckets, find, first, first_behind, is_placed_at, is_unplaced, seat_under, set_under,
     take_under,
 };
+use crate::scanning::nearest;
 use cache_model::{Key, ModelFault, Place, hash};
 use std::alloc::Global;
 use std::collections::BTreeMap;
@@ -107,12 +108,17 @@ impl Table {
         }
     }
 
-    /// The first key that has a place behind another in walk order, or the first of all.
+    /// The first key that has a place behind another in the walk order by so many bits, or the first of all. By the bits
+    /// that the table was made with it takes logarithmic time, and that of the seats without a place that it passes. By
+    /// other bits it looks at each seat.
     pub fn next_placed(&self, bits: u32, after: Option<&Key>) -> Option<&Key>
-        requires { bits ≡ self.now.bits }
+        requires { bits ≤ 32 }
         ensures next { IsNextPlaced bits self.now (option_map (λ key. key.now) after.entry) (option_map (λ key. key.now) result) }
     {
-        next_in_order(&self.buckets, bits, after)
+        if bits == self.bits {
+            return next_in_order(&self.buckets, bits, after);
+        }
+        nearest(&self.buckets, after, bits)
     }
 }
 

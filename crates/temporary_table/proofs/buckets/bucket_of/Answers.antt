@@ -1,7 +1,4 @@
 use Rattle.std.specs.Prelude.{Some, None}
-use Rattle.std.proofs.Common.{◌∙◌, ap}
-use Rattle.std.specs.Prelude.{Option}
-use Rattle.std.specs.BTreeMap.{IsOrdered}
 use Rattle.temporary_table.proofs.Refilling.{fills}
 use Rattle.temporary_table.proofs.buckets.bucket_of.Goals as goal
 

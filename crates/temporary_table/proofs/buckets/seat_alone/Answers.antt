@@ -1,5 +1,5 @@
 use Rattle.std.proofs.Common.{ap}
-use Rattle.std.specs.Prelude.{Some, None, Option}
+use Rattle.std.specs.Prelude.{None, Option}
 use Rattle.temporary_table.specs.Buckets.{Bucket, seat_in}
 use Rattle.temporary_table.proofs.Moving.{stays}
 use Rattle.temporary_table.proofs.buckets.seat_alone.Goals as goal

@@ -1,8 +1,7 @@
-use Rattle.std.proofs.Common.{◌∙◌, refl, sym, ap, subst}
-use Rattle.std.specs.Prelude.{Some, None, Option}
+use Rattle.std.proofs.Common.{◌∙◌, refl, sym}
 use Rattle.std.specs.BTreeMap.{get}
-use Rattle.temporary_table.specs.Places.{Seat, seated}
-use Rattle.temporary_table.specs.Buckets.{key_cmp, Refills}
+use Rattle.temporary_table.specs.Places.{seated}
+use Rattle.temporary_table.specs.Buckets.{key_cmp}
 use Rattle.temporary_table.proofs.Refilling.{refills_same, seated_there, put_or_same, kept_none}
 use Rattle.temporary_table.proofs.buckets.seat_beside.Goals as goal
 

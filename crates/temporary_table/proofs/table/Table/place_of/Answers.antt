@@ -1,5 +1,5 @@
 use Rattle.std.proofs.Common.{◌∙◌, sym, ap}
-use Rattle.temporary_table.specs.Places.{placed, place_of, Places}
+use Rattle.temporary_table.specs.Places.{placed}
 use Rattle.temporary_table.specs.Buckets.{seat_at}
 use Rattle.temporary_table.proofs.Keeping.{reads}
 use Rattle.temporary_table.proofs.table.Table.place_of.Goals as goal

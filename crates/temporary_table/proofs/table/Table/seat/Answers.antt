@@ -1,5 +1,3 @@
-use Rattle.std.proofs.Common.{subst, sym}
-use Rattle.temporary_table.specs.Places.{Places, Reseats, Stays, seated, seat_of}
 use Rattle.temporary_table.proofs.Keeping.{seated_or_not}
 use Rattle.temporary_table.proofs.table.Table.seat.Goals as goal
 

@@ -1,4 +1,4 @@
-use Rattle.std.proofs.Common.{◌∙◌, subst, sym, ap}
+use Rattle.std.proofs.Common.{subst, sym}
 use Rattle.std.specs.Prelude.{Some, Option, IsSome}
 use Rattle.temporary_table.specs.Places.{Places, Seat, seat_of}
 use Rattle.temporary_table.proofs.Keeping.{reads_at, reseats_at}

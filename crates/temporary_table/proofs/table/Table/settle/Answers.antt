@@ -1,6 +1,6 @@
-use Rattle.std.proofs.Common.{◌∙◌, ap, sym, subst, true, false}
-use Rattle.std.specs.Prelude.{Option, Some, None}
-use Rattle.temporary_table.specs.Places.{Seat, Places, place_of, placed, Reseats}
+use Rattle.std.proofs.Common.{◌∙◌, ap, sym}
+use Rattle.std.specs.Prelude.{None}
+use Rattle.temporary_table.specs.Places.{Places, place_of, placed}
 use Rattle.temporary_table.proofs.Ordered.{never}
 use Rattle.temporary_table.proofs.Keeping.{reads_at, reseats_at}
 use Rattle.temporary_table.proofs.table.Table.settle.Goals as goal

@@ -1,6 +1,6 @@
-use Rattle.std.proofs.Common.{◌∙◌, ap, sym, subst, true, false}
-use Rattle.std.specs.Prelude.{Option, Some, None}
-use Rattle.temporary_table.specs.Places.{Seat, Places, seat_of, Reseats, unseated}
+use Rattle.std.proofs.Common.{◌∙◌, ap, sym, subst}
+use Rattle.std.specs.Prelude.{Option, None}
+use Rattle.temporary_table.specs.Places.{Seat, seat_of, Reseats, unseated}
 use Rattle.temporary_table.proofs.Ordered.{never}
 use Rattle.temporary_table.proofs.Keeping.{reads_at, reseats_at, reseats_same, unseated_other, with_buckets}
 use Rattle.temporary_table.specs.Buckets.{places_of}
