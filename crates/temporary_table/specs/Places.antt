@@ -8,7 +8,7 @@ use Rattle.cache_model.specs.declared.files.Place.{Place}
 abbrev pub Seat : Type 0
 Seat = Option (Place × Bool)
 
--- Keys that have a seat, each once, with what it has, and how many bits of the keys' hash give the order.
+-- The keys that have a seat, with what it has, and how many bits of the keys' hash give the order.
 pub record Places : Type 0 where
   pub bits : ℕ
   pub seats : List (List ℕ × Seat)

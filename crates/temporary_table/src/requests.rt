@@ -127,7 +127,7 @@ impl Requests {
         self.queue.pop_front()
     }
 
-    /// How many of those that wait raise the count of a key, and how many lower it.
+    /// How many of those that wait raise the count of a key, and how many lower it. It looks at each of them.
     pub fn waiting(&self, key: &Key) -> (u64, u64)
         ensures raising { result.0 ≡ count_by (raises key.now) self.now.waiting }
         ensures lowering { result.1 ≡ count_by (lowers key.now) self.now.waiting }
