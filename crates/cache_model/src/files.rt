@@ -29,3 +29,13 @@ pub struct Place {
     pub at: u32,
     pub length: u32,
 }
+
+/// The figures of one data file.
+#[derive(Clone, Copy, Debug, PartialEq, Eq)]
+pub struct FileCount {
+    pub number: u32,
+    /// Its length, in bytes.
+    pub size: u64,
+    /// How many of them belong to records that are the newest of their keys.
+    pub live: u64,
+}

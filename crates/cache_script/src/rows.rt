@@ -99,7 +99,9 @@ pub enum Row {
 pub fn step_of(name: &[u8]) -> Option<StepKind>
     ensures { result ≡ lookup (bytes_eq name.now) step_rows }
 {
-    if name == b"rotate".as_slice() {
+    if name == b"index".as_slice() {
+        Some(StepKind::Index)
+    } else if name == b"rotate".as_slice() {
         Some(StepKind::Rotate)
     } else {
         None

@@ -13,7 +13,7 @@ use std::process::Abort;
 use std::test::Fail;
 
 /// Lines without keys, and what is read of them.
-const SOLE_LINES: [(&str, &str); 39] = [
+const SOLE_LINES: [(&str, &str); 42] = [
     ("at 0", "Ok(At(0))"),
     ("at 00000000000000000007", "Ok(At(7))"),
     ("at 000000000000000000007", "Err(Syntax)"),
@@ -30,6 +30,7 @@ const SOLE_LINES: [(&str, &str); 39] = [
     ("sync", "Ok(Sync)"),
     ("sync x", "Err(Syntax)"),
     ("sync ", "Err(Syntax)"),
+    ("step index", "Ok(Step(Index))"),
     ("step rotate", "Ok(Step(Rotate))"),
     ("step", "Err(Syntax)"),
     ("step ", "Err(Syntax)"),
@@ -37,7 +38,9 @@ const SOLE_LINES: [(&str, &str); 39] = [
     ("step  rotate", "Err(Syntax)"),
     ("step rotate ", "Err(Syntax)"),
     ("step Rotate", "Err(Syntax)"),
-    ("step index", "Err(Syntax)"),
+    ("step index x", "Err(Syntax)"),
+    ("step Index", "Err(Syntax)"),
+    ("step inde", "Err(Syntax)"),
     ("step flush", "Err(Syntax)"),
     ("step compact", "Err(Syntax)"),
     ("step evict", "Err(Syntax)"),

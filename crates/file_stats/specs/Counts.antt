@@ -1,7 +1,7 @@
 -- The figures of data files.
 use Rattle.std.specs.Prelude.{◌≤◌, List, map, All}
 use Rattle.std.specs.List.Sorted.{IsStrictlyIncreasing}
-use Rattle.file_stats.specs.declared.file_list.FileCount.{FileCount}
+use Rattle.cache_model.specs.declared.files.FileCount.{FileCount}
 
 -- The numbers of the files ascend, so that each file has one row, and no file has more live bytes than bytes.
 pub record AreCounts (rows : List FileCount) : Type 0 where

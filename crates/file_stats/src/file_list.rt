@@ -3,19 +3,9 @@ ghost use Rattle.std.specs.Prelude.{◌≡◌, IfOk, IfErr};
 ghost use Rattle.cache_model.specs.declared.faults.ModelFault.TheVariants.{Memory};
 ghost use Rattle.file_stats.specs.Counts.{AreCounts};
 
-use cache_model::ModelFault;
+use cache_model::{FileCount, ModelFault};
 use std::alloc::Global;
 use std::marker::Model;
-
-/// The figures of one data file.
-#[derive(Clone, Copy, Debug, PartialEq, Eq)]
-pub struct FileCount {
-    pub number: u32,
-    /// Its length, in bytes.
-    pub size: u64,
-    /// How many of them belong to records that are the newest of their keys.
-    pub live: u64,
-}
 
 /// The figures of several data files, by ascending numbers.
 #[derive(Debug, Drop)]
@@ -25,7 +15,7 @@ pub struct FileList {
 
 impl Model for FileList {
     ghost use Rattle.std.specs.Prelude.{List};
-    ghost use Rattle.file_stats.specs.declared.file_list.FileCount.{FileCount};
+    ghost use Rattle.cache_model.specs.declared.files.FileCount.{FileCount};
     ghost use Rattle.file_stats.specs.Counts.{AreCounts};
 
     ghost Value = { List FileCount };

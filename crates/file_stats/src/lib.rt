@@ -5,4 +5,4 @@ mod file_list;
 #[cfg(test)]
 mod tests;
 
-pub use file_list::{FileCount, FileList, Found};
+pub use file_list::{FileList, Found};

@@ -1,5 +1,6 @@
 // A list of files is had back as it was given, and what is found carries it.
-use crate::{FileCount, FileList, Found};
+use crate::{FileList, Found};
+use cache_model::FileCount;
 use std::process::Abort;
 use std::test::Fail;
 

@@ -3,8 +3,8 @@ use Rattle.std.proofs.Common.{ℕ, Option, refl}
 use Rattle.std.specs.Prelude.{Result, Ok, Err, OnOk}
 use Rattle.cache_model.specs.declared.faults.StoreFault.{StoreFault}
 use Rattle.std.specs.BTreeMap.{BTreeMap, Updates, IsOrdered}
-use Rattle.tree_index.specs.declared.entries.IndexKey.{IndexKey}
-use Rattle.tree_index.specs.declared.entries.IndexValue.{IndexValue}
+use Rattle.cache_model.specs.declared.index.IndexKey.{IndexKey}
+use Rattle.cache_model.specs.declared.index.IndexValue.{IndexValue}
 use Rattle.tree_index.specs.Index.{Index, index_cmp, Sets}
 
 -- the index over these entries

@@ -14,8 +14,8 @@ use Rattle.std.proofs.lemmas.Cmp.{ranked}
 use Rattle.std.proofs.lemmas.List.Kept.{IsStrictlySortedBy-filter}
 use Rattle.std.proofs.lemmas.List.{append-nil, append_assoc}
 use Rattle.std.proofs.lemmas.Map.Keys.{sorted_head, sorted_tail}
-use Rattle.tree_index.specs.declared.entries.IndexKey.{IndexKey}
-use Rattle.tree_index.specs.declared.entries.IndexValue.{IndexValue}
+use Rattle.cache_model.specs.declared.index.IndexKey.{IndexKey}
+use Rattle.cache_model.specs.declared.index.IndexValue.{IndexValue}
 use Rattle.tree_index.specs.Index.{Entries, index_cmp, AreOrdered, entries_of, IsNext}
 use Rattle.tree_index.specs.Starts.{start_after}
 

@@ -5,8 +5,8 @@ use Rattle.std.specs.List.Sorted.{IsStrictlySortedBy}
 use Rattle.std.specs.declared.cmp.Ordering.{Ordering}
 use Rattle.std.specs.declared.cmp.Ordering.TheVariants.{Less}
 use Rattle.std.specs.Ordering.{nat_cmp, ordering_then, is_eq, is_gt}
-use Rattle.tree_index.specs.declared.entries.IndexKey.{IndexKey}
-use Rattle.tree_index.specs.declared.entries.IndexValue.{IndexValue}
+use Rattle.cache_model.specs.declared.index.IndexKey.{IndexKey}
+use Rattle.cache_model.specs.declared.index.IndexValue.{IndexValue}
 
 -- entries, each a key with what is held under it
 abbrev pub Entries : Type 0

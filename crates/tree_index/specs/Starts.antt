@@ -2,7 +2,7 @@
 use Rattle.std.specs.Prelude.{Option, Some, None}
 use Rattle.std.specs.declared.ops.Bound.{Bound}
 use Rattle.std.specs.declared.ops.Bound.TheVariants.{Excluded, Unbounded}
-use Rattle.tree_index.specs.declared.entries.IndexKey.{IndexKey}
+use Rattle.cache_model.specs.declared.index.IndexKey.{IndexKey}
 
 -- where the keys above one begin
 abbrev pub start_after : Option IndexKey → Bound IndexKey

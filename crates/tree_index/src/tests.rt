@@ -1,7 +1,8 @@
 // What each call answers, and a drawn run of calls beside a plain list.
 ghost use Rattle.std.specs.Prelude.{◌<◌, IfOk};
 
-use crate::{IndexKey, IndexValue, Tree};
+use crate::Tree;
+use cache_model::{IndexKey, IndexValue};
 use host_memory::MemoryHost;
 use std::alloc::Global;
 use std::process::Abort;

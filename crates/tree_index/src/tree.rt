@@ -6,9 +6,8 @@ ghost use Rattle.std.specs.BTreeMap.{Updates, IsOrdered};
 ghost use Rattle.tree_index.specs.Index.{entries_of, index_cmp, value_at, AreOrdered, IsNext, Sets};
 ghost use Rattle.tree_index.specs.Starts.{start_after};
 
-use crate::{IndexKey, IndexValue};
 use cache_disk::Host;
-use cache_model::StoreFault;
+use cache_model::{IndexKey, IndexValue, StoreFault};
 use std::alloc::Global;
 use std::collections::BTreeMap;
 use std::marker::Model;

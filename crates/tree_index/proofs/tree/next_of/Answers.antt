@@ -2,7 +2,7 @@ use Rattle.std.proofs.Common.{◌∙◌, ap, subst}
 use Rattle.std.specs.BTreeMap.Range.{IsRangeOf}
 use Rattle.std.specs.declared.ops.Bound.{Bound}
 use Rattle.std.specs.declared.ops.Bound.TheVariants.{Unbounded}
-use Rattle.tree_index.specs.declared.entries.IndexKey.{IndexKey}
+use Rattle.cache_model.specs.declared.index.IndexKey.{IndexKey}
 use Rattle.tree_index.specs.Index.{index_cmp}
 use Rattle.tree_index.specs.Starts.{start_after}
 use Rattle.tree_index.proofs.Walks.{is_next, none_next}

@@ -1,4 +1,4 @@
-// What the index holds.
+// What the index of records holds.
 
 /// What an entry of the index stands under: a record, by the hash of its key and its place. Keys are ordered by the hash,
 /// then by the file, then by the offset.
