@@ -1,3 +1,4 @@
 pub mod Appending
+pub mod Fetching
 pub mod Scanning
 pub mod Windows

@@ -2,10 +2,12 @@
 #![tactic(auto)]
 
 mod appender;
+mod fetching;
 mod scan;
 mod window;
 
 pub use appender::Appender;
+pub use fetching::read_record;
 pub use scan::{Scan, Scanned};
 
 #[cfg(test)]
