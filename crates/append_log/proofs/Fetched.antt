@@ -20,10 +20,11 @@ use Rattle.record_format.specs.Meaning.{own_item}
 use Rattle.append_log.specs.declared.log_files.LogFiles.{LogFiles}
 use Rattle.append_log.specs.Current.{data_name, IsFileOf, IsNamed}
 use Rattle.append_log.specs.Standing.{Closed, Held, Stands, Wrote, IsClosedIn, IsGoneOr, AreClosedIn}
-use Rattle.append_log.specs.Fetching.{bytes_at, is_record, wrong_with, Fetches, Gives}
+use Rattle.data_file.specs.Fetching.{bytes_at, is_record, wrong_with, Fetches}
+use Rattle.append_log.specs.Fetching.{Gives}
 use Rattle.append_log.proofs.Places.{SpellsAt, contains_first, in_file, in_written}
 
-is_item : (item : Item) → IsRecord item → IsItem item
+pub is_item : (item : Item) → IsRecord item → IsItem item
 is_item (put seq until key value) is = is
 is_item (removal seq key) is = is
 is_item (end moment) is = absurd is

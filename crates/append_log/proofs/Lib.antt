@@ -2,4 +2,3 @@ pub mod Steps
 pub mod Fetched
 pub mod Holding
 pub mod Places
-pub mod Reading

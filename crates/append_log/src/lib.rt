@@ -5,6 +5,7 @@
 mod fetching;
 mod log_calls;
 mod log_files;
+mod spending;
 mod turning;
 mod writing;
 

@@ -1,6 +1,6 @@
 use Rattle.std.proofs.Common.{subst}
 use Rattle.cache_model.specs.declared.files.FileName.{FileName}
-use Rattle.append_log.specs.Fetching.{Fetches}
+use Rattle.data_file.specs.Fetching.{Fetches}
 use Rattle.append_log.specs.Current.{data_name}
 use Rattle.append_log.proofs.Fetched.{gives, spells_held}
 use Rattle.append_log.proofs.Holding.{holds_still}
