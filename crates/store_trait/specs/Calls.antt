@@ -12,7 +12,7 @@ use Rattle.cache_model.specs.declared.commands.StepKind.{StepKind}
 use Rattle.cache_model.specs.declared.commands.StepKind.TheVariants.{Index, Flush, Compact, Evict, Reap, Rotate}
 use Rattle.cache_model.specs.declared.replies.Turned.{Turned}
 use Rattle.cache_model.specs.Hash.{precedes, follows}
-use Rattle.cache_disk.specs.State.{HostState, Silent}
+use Rattle.cache_disk.specs.State.{HostState, Rose, Silent}
 use Rattle.store_trait.specs.Meaning.{Reading, Content, read_in, seen, key_of, changed, Numbers, StoreFacts, StoreState}
 use Rattle.store_trait.specs.Keeping.{Leaves, Keeps, Opens, IsKept, IsKeptAtMarks, SameContent, IsOnly, IsSettled, SameStore}
 
@@ -108,7 +108,7 @@ pub record Loaded (key : List ℕ) (f g : StoreFacts) (old new : StoreState) (be
   pub content : SameContent old.content new.content
   pub answer : IfOk result (λ answer. IsAnswer (f.forgets key) moment (read_in old.content key) answer)
   pub parts : OnOk result (g.parts ≡ f.parts)
-  pub most : after.short_reads ≡ before.short_reads → after.asked after.turn ≤ before.asked before.turn + old.most key
+  pub most : (Rose before.short_reads after.short_reads → ⊥) → after.asked after.turn ≤ before.asked before.turn + old.most key
   pub fetched : old.fetches key → IfOk result (λ answer. before.asked before.turn + known_bytes key answer ≤ after.asked after.turn)
 
 -- a key is visible, and stands behind another

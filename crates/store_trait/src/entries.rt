@@ -174,7 +174,7 @@ fn take_empty(rooms: &mut BTreeMap<HashedKey, Room>, place: &HashedKey)
 }
 
 /// Whether an entry that ends so is visible at a moment.
-pub(crate) fn is_visible(until: Until, moment: u64) -> bool
+pub fn is_visible(until: Until, moment: u64) -> bool
     ensures { result ≡ is_visible until moment }
 {
     match until {

@@ -5,7 +5,7 @@ mod entries;
 mod heap_store;
 mod traits;
 
-pub use entries::{Entries, Seat};
+pub use entries::{Entries, Seat, is_visible};
 pub use heap_store::{HeapStore, answer_of};
 pub use traits::{Keyed, ReadStore, Store};
 
