@@ -4,3 +4,5 @@ pub mod Moving
 pub mod Keeping
 pub mod Walks
 pub mod Scans
+pub mod Chaining
+pub mod Counting

@@ -31,10 +31,10 @@ nearest_both bits after best (e ∷ one) other = nearest_both bits after (nearer
 
 -- walk order is a total one
 
-abbrev walk_cmp : ℕ → List ℕ → List ℕ → Ordering
+abbrev pub walk_cmp : ℕ → List ℕ → List ℕ → Ordering
 walk_cmp bits one other = ordering_then (nat_cmp (hash bits one) (hash bits other)) (key_cmp one other)
 
-walk_total : (bits : ℕ) → IsTotalOrder (walk_cmp bits)
+pub walk_total : (bits : ℕ) → IsTotalOrder (walk_cmp bits)
 walk_total bits = then_total (on_total (hash bits) nat_cmp_total) nat_list_cmp_total
 
 walk_exact : (bits : ℕ) (one other : List ℕ) → walk_cmp bits one other ≡ Equal → one ≡ other
@@ -45,7 +45,7 @@ walk_exact bits one other is = by (nat_cmp (hash bits one) (hash bits other)) (k
     by Greater p is both = cc
     by Equal p is both = exact_bytes one other (is ∙ both)
 
-precedes_by : (bits : ℕ) (one other : List ℕ) → precedes bits one other ≡ is_lt (walk_cmp bits one other)
+pub precedes_by : (bits : ℕ) (one other : List ℕ) → precedes bits one other ≡ is_lt (walk_cmp bits one other)
 precedes_by bits one other = by (hash bits one == hash bits other) refl (nat_lt (hash bits one) (hash bits other)) refl
   where
     by : (b : Bool) → (hash bits one == hash bits other) ≡ b → (a : Bool) → nat_lt (hash bits one) (hash bits other) ≡ a
@@ -56,17 +56,17 @@ precedes_by bits one other = by (hash bits one == hash bits other) refl (nat_lt 
     by false apart false late = refl
 
 -- a key is another, or stands behind it
-abbrev IsNotBefore : ℕ → List ℕ → List ℕ → Type 0
+abbrev pub IsNotBefore : ℕ → List ℕ → List ℕ → Type 0
 IsNotBefore bits key other = (other ≡ key) ⊎ (precedes bits key other ≡ true)
 
-chain : (bits : ℕ) (one two three : List ℕ) → IsNotBefore bits one two → IsNotBefore bits two three → IsNotBefore bits one three
+pub chain : (bits : ℕ) (one two three : List ℕ) → IsNotBefore bits one two → IsNotBefore bits two three → IsNotBefore bits one three
 chain bits one two three (inl same) later = subst (λ (k : List ℕ). IsNotBefore bits k three) same later
 chain bits one two three (inr less) (inl same) = inr (subst (λ (k : List ℕ). precedes bits one k ≡ true) (sym same) less)
 chain bits one two three (inr less) (inr later) = inr (precedes_by bits one three ∙ ap is_lt ((walk_total bits).trans one two three
     (less_of (walk_cmp bits one two) (sym (precedes_by bits one two) ∙ less)) (less_of (walk_cmp bits two three) (sym (precedes_by bits two three) ∙ later))))
 
 -- of two keys, one isn't before the other
-either : (bits : ℕ) (one other : List ℕ) → precedes bits one other ≡ false → IsNotBefore bits other one
+pub either : (bits : ℕ) (one other : List ℕ) → precedes bits one other ≡ false → IsNotBefore bits other one
 either bits one other not = by (walk_cmp bits one other) refl
   where
     by : (o : Ordering) → walk_cmp bits one other ≡ o → IsNotBefore bits other one

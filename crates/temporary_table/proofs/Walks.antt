@@ -109,7 +109,7 @@ lower_test m n = by (m == n) (nat_lt m n)
 pub not_both : (m n : ℕ) → (m == n) ≡ true → nat_lt m n ≡ true → ⊥
 not_both m n is less = grind (arith, nat_tests)
 
-precedes_within : (bits : ℕ) (one other : List ℕ) → hash bits one ≡ hash bits other → is_lt (key_cmp one other) ≡ true → precedes bits one other ≡ true
+pub precedes_within : (bits : ℕ) (one other : List ℕ) → hash bits one ≡ hash bits other → is_lt (key_cmp one other) ≡ true → precedes bits one other ≡ true
 precedes_within bits one other is less = by (hash bits one == hash bits other) refl
   where
     equal : (hash bits one == hash bits other) ≡ true
@@ -119,7 +119,7 @@ precedes_within bits one other is less = by (hash bits one == hash bits other) r
     by true same = less
     by false apart = absurd (never (sym equal ∙ apart))
 
-precedes_lower : (bits : ℕ) (one other : List ℕ) → is_lt (nat_cmp (hash bits one) (hash bits other)) ≡ true → precedes bits one other ≡ true
+pub precedes_lower : (bits : ℕ) (one other : List ℕ) → is_lt (nat_cmp (hash bits one) (hash bits other)) ≡ true → precedes bits one other ≡ true
 precedes_lower bits one other lower = by (hash bits one == hash bits other) refl
   where
     less : nat_lt (hash bits one) (hash bits other) ≡ true
@@ -129,7 +129,7 @@ precedes_lower bits one other lower = by (hash bits one == hash bits other) refl
     by true same = absurd (not_both (hash bits one) (hash bits other) same less)
     by false apart = less
 
-precedes_either : (bits : ℕ) (one other : List ℕ) → precedes bits one other ≡ true
+pub precedes_either : (bits : ℕ) (one other : List ℕ) → precedes bits one other ≡ true
     → ((hash bits one ≡ hash bits other) × (is_lt (key_cmp one other) ≡ true)) ⊎ (is_lt (nat_cmp (hash bits one) (hash bits other)) ≡ true)
 precedes_either bits one other is = by (hash bits one == hash bits other) refl is
   where

@@ -4,3 +4,4 @@ pub mod Walking
 pub mod Buckets
 pub mod Searching
 pub mod Scanning
+pub mod Chains

@@ -1,9 +1,8 @@
 -- The requests that wait for the index.
-use Rattle.std.specs.Prelude.{ℕ, ◌≤◌, Bool, false, List, [], ◌∷◌, ◌++◌, length}
+use Rattle.std.specs.Prelude.{ℕ, Bool, false, List, [], ◌∷◌, ◌++◌}
 use Rattle.std.specs.Str.{bytes_eq}
 use Rattle.temporary_table.specs.declared.requests.Request.{Request}
 use Rattle.temporary_table.specs.declared.requests.Request.TheVariants.{Set, Swap, Drop, Less}
-use Rattle.temporary_table.specs.declared.requests.Requests.TheInside.{Inside}
 
 -- The requests that wait, oldest first, and how many may.
 pub record Queue : Type 0 where
@@ -34,11 +33,3 @@ lowers key (Less named) = bytes_eq named key
 -- a queue with one more request, the newest
 abbrev pub pushed : Queue → Request → Queue
 pushed queue request = record { limit = queue.limit; waiting = queue.waiting ++ request ∷ [] }
-
-abbrev pub queue_of : Inside → Queue
-queue_of inside = record { limit = inside.limit; waiting = inside.queue.items }
-
--- the room for all that may wait is there
-pub record HasRoom (inside : Inside) : Type 0 where
-  pub reserved : inside.limit ≤ inside.queue.cap
-  pub within : length inside.queue.items ≤ inside.limit

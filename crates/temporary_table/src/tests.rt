@@ -79,7 +79,7 @@ fn requests_are_taken_in_order(rt: HostRuntime) -> Result<(), Fail> {
         assert!(rt; requests.pop() == Some(wanted));
         assert_eq!(rt; requests.waiting(&key), waiting);
     }
-    assert!(rt; requests.is_empty() && requests.len() == 0);
+    assert!(rt; requests.is_empty() && requests.len() == 0 && requests.first().is_none());
     Ok(())
 }
 
@@ -87,6 +87,84 @@ fn requests_are_taken_in_order(rt: HostRuntime) -> Result<(), Fail> {
 fn no_request_has_room_in_none(rt: HostRuntime) -> Result<(), Fail> {
     let mut requests = Requests::new(rt.alloc(), 0)?;
     assert!(rt; requests.is_full() && requests.pop().is_none());
+    Ok(())
+}
+
+/// What a row of a list stands for: the kind of a request and the name of its key.
+type Waiting = Vec<(char, &'static str)>;
+
+/// The limits of queues, and what their keys are named. Those of the second are all in one bucket.
+const QUEUES: [(usize, [&'static str; 4]); 3] = [
+    (1, ["a", "aa", "b", "k"]),
+    (8, ["a", "i", "q", "y"]),
+    (5, ["a", "aa", "b", "k"]),
+];
+
+// How many rows of a list raise the count of a key, and how many lower it.
+fn counted(rows: &Waiting, name: &str) -> (u64, u64) {
+    let raises = |kind| kind == 's' || kind == 'w';
+    let raising = rows.iter().filter(|row| row.1 == name && raises(row.0));
+    let lowering = rows.iter().filter(|row| row.1 == name && row.0 == 'l');
+    (raising.count() as u64, lowering.count() as u64)
+}
+
+// Whether a queue has what a list has.
+fn waits_as(
+    alloc: Global,
+    requests: &Requests,
+    rows: &Waiting,
+    names: &[&'static str; 4],
+) -> Result<bool, Fail> {
+    let mut alike = requests.len() == rows.len();
+    for name in names {
+        let key = Key::of(alloc, name.as_bytes())?;
+        alike = alike && requests.waiting(&key) == counted(rows, name);
+    }
+    let first = match rows.first() {
+        Some((kind, name)) => Some(request_of(alloc, *kind, name)?),
+        None => None,
+    };
+    Ok(alike && requests.first() == first.as_ref())
+}
+
+// A call that was drawn, of a queue and of a list: the oldest is taken, or there is one more where there is room.
+fn drawn_turn(
+    alloc: Global,
+    requests: &mut Requests,
+    rows: &mut Waiting,
+    drawn: u32,
+    names: &[&'static str; 4],
+) -> Result<(), Fail> {
+    if (drawn >> 24) % 2 == 0 {
+        requests.pop();
+        if !rows.is_empty() {
+            rows.remove(0);
+        }
+    } else if !requests.is_full() {
+        let kind = ['s', 'w', 'd', 'l'][((drawn >> 16) % 4) as usize];
+        let name = names[((drawn >> 8) % 4) as usize];
+        requests.push(request_of(alloc, kind, name)?);
+        rows.push((kind, name))?;
+    }
+    Ok(())
+}
+
+#[test]
+fn drawn_requests_wait_as_in_a_list(rt: HostRuntime) -> Result<(), Fail> {
+    let alloc = rt.alloc();
+    for (limit, names) in QUEUES {
+        let mut requests = Requests::new(alloc, limit)?;
+        let mut rows: Waiting = Vec::new(alloc);
+        let mut drawn: u32 = 7;
+        for turn in 0..300 {
+            drawn = drawn.wrapping_mul(1_664_525).wrapping_add(1_013_904_223);
+            drawn_turn(alloc, &mut requests, &mut rows, drawn, &names)?;
+            assert!(rt;
+                waits_as(alloc, &requests, &rows, &names)?,
+                "{limit}: {turn}"
+            );
+        }
+    }
     Ok(())
 }
 
