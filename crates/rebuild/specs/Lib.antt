@@ -1,0 +1,5 @@
+pub mod Listing
+pub mod Rebuilt
+pub mod Rows
+pub mod Taking
+pub mod Reading
