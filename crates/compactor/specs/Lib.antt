@@ -1,0 +1,9 @@
+pub mod Counting
+pub mod Entering
+pub mod Finding
+pub mod Indexing
+pub mod Looking
+pub mod Raising
+pub mod Rows
+pub mod Stepping
+pub mod Walking

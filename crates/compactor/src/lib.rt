@@ -1,0 +1,15 @@
+//! The parts behind a store: the log that writes its records, the table and the queue of those that the index doesn't
+//! have yet, and the index.
+#![tactic(auto)]
+
+mod entering;
+mod finding;
+mod looking;
+mod parts;
+mod stepping;
+mod walking;
+
+pub use parts::Parts;
+
+#[cfg(test)]
+mod tests;
