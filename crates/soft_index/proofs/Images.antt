@@ -1,11 +1,11 @@
 -- What images read, over the calls of the store.
-use Rattle.std.proofs.Common.{◌≡◌, ◌⊎◌, ⊎_elim, inl, inr, ℕ, ◌+◌, ◌≤◌, ◌<◌, ◌==◌, true, false, Bool, cond, List, [], ◌∷◌, ◌++◌, Option, Some, None, Contains, IsSome, is_some, refl, sym, ◌∙◌, ap, subst, arith}
+use Rattle.std.proofs.Common.{◌≡◌, ◌⊎◌, ⊎_elim, inl, inr, ℕ, ◌+◌, ◌≤◌, ◌<◌, ◌==◌, true, false, Bool, cond, List, [], ◌∷◌, ◌++◌, Option, Some, None, Contains, IsSome, refl, sym, ◌∙◌, ap, subst, arith}
 use Rattle.std.proofs.Math.Nat.{eq-or-lt_of_le}
 use Rattle.std.proofs.lemmas.List.{append-nil}
 use Rattle.std.proofs.lemmas.List.Elements.{Contains-append_left, Contains-push, Contains-push_cases}
 use Rattle.std.proofs.lemmas.Slice.Eq.{bytes_eq-Decides}
 use Rattle.std.specs.Str.{bytes_eq}
-use Rattle.std.specs.Prelude.{Result, Err, IsErrOf, ◌&&◌, ◌||◌}
+use Rattle.std.specs.Prelude.{Result, IsErrOf, ◌&&◌, ◌||◌}
 use Rattle.cache_model.specs.declared.entries.Change.{Change}
 use Rattle.cache_model.specs.declared.entries.Change.TheVariants.{Put, Remove}
 use Rattle.cache_model.specs.declared.entries.Entry.{Entry}
@@ -18,18 +18,18 @@ use Rattle.cache_model.specs.Files.{Image, file_in, is_name, kind_number}
 use Rattle.cache_model.specs.Items.{Item, end}
 use Rattle.cache_model.specs.DataFiles.{Frame, CountsFrames, IsUndamaged, placed_frames}
 use Rattle.cache_model.specs.Images.{log_name, IsCounted, key_of, sequence_of, entry_by, IsNewest, IsMark, IsSound}
-use Rattle.cache_disk.specs.State.{HostState, Moves, SameBut, Silent, Stands}
+use Rattle.cache_disk.specs.State.{HostState, Moves, SameBut, Silent}
 use Rattle.cache_disk.specs.Calls.{OnFile, AllLeft, HasFile}
-use Rattle.cache_disk.proofs.Runs.{weaker, left_still, started, goes_on_file, weaker_on_file, Stands-left, Stands-moves, Stands-same, SameBut-same, Silent-same}
+use Rattle.cache_disk.proofs.Runs.{weaker}
 use Rattle.data_file.specs.declared.appender.Appender.{Appender}
-use Rattle.data_file.specs.Appending.{sealed, next_place, IsHostly}
-use Rattle.data_file.proofs.Frame.{placed_of, placed-push, placed-sealed, counted_now, stands_still}
+use Rattle.data_file.specs.Appending.{sealed, next_place}
+use Rattle.data_file.proofs.Frame.{placed_of, placed-push, placed-sealed, counted_now}
 use Rattle.store_trait.specs.Meaning.{Reading, Content, read_in, changed, key_of as change_key, entry_of}
 use Rattle.store_trait.specs.Keeping.{IsSettled, IsOldWhole, IsNewWhole, Keeps, Opens, Leaves, SameWhere, SameContent, IsOld, IsNew}
 use Rattle.store_trait.specs.Calls.{Acts}
 use Rattle.soft_index.specs.declared.log_store.LogStore.{LogStore}
-use Rattle.soft_index.specs.Store.{item_by, HasReading, IsNewestBy, Holds, SameOthers, ImagePair, ImageWhole, IsNamed, IsFileOf, LogStands, content_of, number, writer, next_of, waiting, owns_file, log_facts, log_means, is_spent}
-use Rattle.soft_index.specs.Laws.{cases_file, reading-same, holds-there, sound_of}
+use Rattle.soft_index.specs.Store.{item_by, HasReading, IsNewestBy, Holds, SameOthers, ImagePair, ImageWhole, IsNamed, IsFileOf, LogStands, content_of, number, writer, owns_file, log_facts, log_means, is_spent, MakesRoom}
+use Rattle.soft_index.specs.Laws.{cases_file, reading-same, sound_of}
 use Rattle.soft_index.proofs.Counting.{Counts, SameCounted, apart, counted-within, counted-there, same-counted, no-contained, undamaged-counted}
 use Rattle.soft_index.proofs.SingleEntries.{one_newest}
 
@@ -129,9 +129,9 @@ counts_now (Some log) file a frames records named is m left =
     inr (subst (λ (name : FileName). HasFile name (CountsFrames frames) m) named (counted_now log a frames records is m left))
 
 -- where nothing waits, each image reads as the content
-pub whole_image : (S : LogStore) (a : HostState) (frames : List Frame) → LogStands S a frames [] → (image : Image) → a.left a.turn image → (key : List ℕ) → HasReading (IsCounted image) key (read_in (content_of S) key)
+pub whole_image : (S : LogStore) (a : HostState) (frames : List Frame) → LogStands S a frames [] → (image : Image) → a.left a.turn image → (key : List ℕ) → HasReading (IsCounted image) key (read_in (content_of S a.files) key)
 whole_image S a frames stands image left key =
-    reading-same (Holds (number S) (placed_of frames []) a.files) (IsCounted image) key (read_in (content_of S) key)
+    reading-same (Holds (number S) (placed_of frames []) a.files) (IsCounted image) key (read_in (content_of S a.files) key)
     (λ n at item of_key. kept counts n at item)
     (λ n at item of_key counted. only n at item counted)
     (stands.content key)
@@ -161,23 +161,23 @@ whole_image S a frames stands image left key =
 pub settled_now : (S : LogStore) (a : HostState) (frames : List Frame) (records : List Item) → records ≡ [] → LogStands S a frames records → IsSettled (log_facts S) (log_means S a) a.turn
 settled_now S a frames records none stands = record {
   each = λ key r m. ⊎_elim
-      (λ pair. inl (reading_is_single pair.image key r (read_in (content_of S) key) pair.reads (reads pair.image pair.left key)))
+      (λ pair. inl (reading_is_single pair.image key r (read_in (content_of S a.files) key) pair.reads (reads pair.image pair.left key)))
       (λ here. inl here.2);
   whole = λ c m. ⊎_elim
-      (λ pair key. inl (reading_is_single pair.image key (read_in c key) (read_in (content_of S) key) (pair.reads key) (reads pair.image pair.left key)))
+      (λ pair key. inl (reading_is_single pair.image key (read_in c key) (read_in (content_of S a.files) key) (pair.reads key) (reads pair.image pair.left key)))
       (λ here key. inl (here.2 key));
 }
   where
-    reads : (image : Image) → a.left a.turn image → (key : List ℕ) → HasReading (IsCounted image) key (read_in (content_of S) key)
+    reads : (image : Image) → a.left a.turn image → (key : List ℕ) → HasReading (IsCounted image) key (read_in (content_of S a.files) key)
     reads image left key = whole_image S a frames (subst (λ (l : List Item). LogStands S a frames l) none stands) image left key
 
 -- one record more
 
-item_key : (seq : ℕ) (change : Change) → key_of (item_by seq change) ≡ Some (change_key change)
+pub item_key : (seq : ℕ) (change : Change) → key_of (item_by seq change) ≡ Some (change_key change)
 item_key seq (Put key entry) = refl
 item_key seq (Remove key) = refl
 
-item_seq : (seq : ℕ) (change : Change) → sequence_of (item_by seq change) ≡ seq
+pub item_seq : (seq : ℕ) (change : Change) → sequence_of (item_by seq change) ≡ seq
 item_seq seq (Put key entry) = refl
 item_seq seq (Remove key) = refl
 
@@ -215,7 +215,7 @@ module _ (file next : ℕ) (frames : List Frame) (records : List Item) (files : 
       (Contains-push_cases (placed_of frames records) (next_place frames records, item_by next change) (a, item) (subst (λ (l : List (ℕ × Item)). Contains l (a, item)) more here.1))
   holds_only n a item (inr other) = inl (inr other)
 
-  holds_new : after file (next_place frames records) (item_by next change)
+  pub holds_new : after file (next_place frames records) (item_by next change)
   holds_new =
       inl (refl, subst (λ (l : List (ℕ × Item)). Contains l (next_place frames records, item_by next change)) (sym more) (Contains-push (placed_of frames records) (next_place frames records, item_by next change)))
 
@@ -402,18 +402,18 @@ leaves_others file a b P same moves = record {
 -- calls
 
 -- a pair that reads the content that the store had was possible when the call began
-old_pair : (S : LogStore) (a : HostState) (moment : ℕ) (key : List ℕ) (r : Reading) (m : ℕ) → S.spoilt ≡ false → S.latest ≤ moment → IsNew ⊥ moment (read_in (content_of S) key) r m → IsOld ⊥ ((log_means S a).may a.turn key) r m
+old_pair : (S : LogStore) (a : HostState) (moment : ℕ) (key : List ℕ) (r : Reading) (m : ℕ) → S.parts.spoilt ≡ false → S.latest ≤ moment → IsNew ⊥ moment (read_in (content_of S a.files) key) r m → IsOld ⊥ ((log_means S a).may a.turn key) r m
 old_pair S a moment key r m sound late new = record {
-  before = read_in (content_of S) key;
+  before = read_in (content_of S a.files) key;
   least = m;
   possible = inr (sound, refl, refl, omega (arith, late, new.late));
   no_later = omega arith;
   alike = new.alike;
 }
 
-old_whole : (S : LogStore) (a : HostState) (moment : ℕ) (c : Content) (m : ℕ) → S.spoilt ≡ false → S.latest ≤ moment → IsNewWhole (λ key. ⊥) moment (content_of S) c m → IsOldWhole (λ key. ⊥) ((log_means S a).whole a.turn) c m
+old_whole : (S : LogStore) (a : HostState) (moment : ℕ) (c : Content) (m : ℕ) → S.parts.spoilt ≡ false → S.latest ≤ moment → IsNewWhole (λ key. ⊥) moment (content_of S a.files) c m → IsOldWhole (λ key. ⊥) ((log_means S a).whole a.turn) c m
 old_whole S a moment c m sound late new = record {
-  before = content_of S;
+  before = content_of S a.files;
   least = m;
   possible = inr (sound, refl, λ key. refl, omega (arith, late, new.late));
   no_later = omega arith;
@@ -425,10 +425,10 @@ old_whole S a moment c m sound late new = record {
 module _ (S T : LogStore) (a b : HostState) (frames : List Frame) (records : List Item) (moment : ℕ) (wanted : Content) (step : Image → Image → Type 0)
     (stands : LogStands S a frames records)
     (moves : Moves a b step)
-    (since : (d c : Image) → a.left a.turn d → step d c → IsAsBefore a c ⊎ IsNewImage (content_of S) moment c)
-    (sound : S.spoilt ≡ false) (late : S.latest ≤ moment) (latest : T.latest ≡ moment)
-    (content : T.spoilt ≡ false → SameContent wanted (content_of T) ⊎ SameContent (content_of S) (content_of T)) where
-  content_since : (key : List ℕ) (r : Reading) (m : ℕ) → T.spoilt ≡ false → r ≡ read_in (content_of T) key → T.latest ≤ m
+    (since : (d c : Image) → a.left a.turn d → step d c → IsAsBefore a c ⊎ IsNewImage (content_of S a.files) moment c)
+    (sound : S.parts.spoilt ≡ false) (late : S.latest ≤ moment) (latest : T.latest ≡ moment)
+    (content : T.parts.spoilt ≡ false → SameContent wanted (content_of T b.files) ⊎ SameContent (content_of S a.files) (content_of T b.files)) where
+  content_since : (key : List ℕ) (r : Reading) (m : ℕ) → T.parts.spoilt ≡ false → r ≡ read_in (content_of T b.files) key → T.latest ≤ m
       → IsOld ⊥ ((log_means S a).may a.turn key) r m ⊎ IsNew ⊥ moment (read_in wanted key) r m
   content_since key r m unspoilt reads after =
       ⊎_elim
@@ -436,7 +436,7 @@ module _ (S T : LogStore) (a b : HostState) (frames : List Frame) (records : Lis
       (λ kept. inl (old_pair S a moment key r m sound late (record { late = omega (arith, latest, after); alike = inl (reads ∙ kept key) })))
       (content unspoilt)
 
-  content_whole : (c : Content) (m : ℕ) → T.spoilt ≡ false → SameContent (content_of T) c → T.latest ≤ m
+  content_whole : (c : Content) (m : ℕ) → T.parts.spoilt ≡ false → SameContent (content_of T b.files) c → T.latest ≤ m
       → IsOldWhole (λ key. ⊥) ((log_means S a).whole a.turn) c m ⊎ IsNewWhole (λ key. ⊥) moment wanted c m
   content_whole c m unspoilt reads after =
       ⊎_elim
@@ -452,7 +452,7 @@ module _ (S T : LogStore) (a b : HostState) (frames : List Frame) (records : Lis
         (λ here. absurd (omega (arith, here.1, before, moves.later)));
     since = λ t key r m after until.
         ⊎_elim
-        (λ pair. ⊎_elim (λ old. inl old) (λ new. inl (old_pair S a moment key r m sound late new)) (pair_since S a b frames records moment (content_of S) step stands moves since t key r m after until pair))
+        (λ pair. ⊎_elim (λ old. inl old) (λ new. inl (old_pair S a moment key r m sound late new)) (pair_since S a b frames records moment (content_of S a.files) step stands moves since t key r m after until pair))
         (λ here. content_since key r m here.0 here.2 here.3);
     past_whole = λ t c m before.
         ⊎_elim
@@ -460,24 +460,24 @@ module _ (S T : LogStore) (a b : HostState) (frames : List Frame) (records : Lis
         (λ here. absurd (omega (arith, here.1, before, moves.later)));
     since_whole = λ ordered t c m after until.
         ⊎_elim
-        (λ pair. ⊎_elim (λ old. inl old) (λ new. inl (old_whole S a moment c m sound late new)) (whole_since S a b frames records moment (content_of S) step stands moves since t c m after until pair))
+        (λ pair. ⊎_elim (λ old. inl old) (λ new. inl (old_whole S a moment c m sound late new)) (whole_since S a b frames records moment (content_of S a.files) step stands moves since t c m after until pair))
         (λ here. content_whole c m here.0 here.2 here.3);
   }
 
   pub call_acts : {R : Type 0} (result : Result R StoreFault)
       → Leaves owns_file false a b
       → Silent a b
-      → (T.spoilt ≡ false → (fs : List Frame) × (rs : List Item) × LogStands T b fs rs)
+      → (T.parts.spoilt ≡ false → (fs : List Frame) × (rs : List Item) × LogStands T b fs rs)
       → ((d : Damage) → IsErrOf result (fault.Damaged d) → ⊥)
       → ((s : Spent) → IsErrOf result (fault.Spent s) → is_spent T s)
-      → (IsErrOf result fault.Memory → T.spoilt ≡ false → SameContent (content_of S) (content_of T) × ((log_facts T).parts ≡ (log_facts S).parts))
+      → (IsErrOf result fault.Memory → T.parts.spoilt ≡ false → SameContent (content_of S a.files) (content_of T b.files) × MakesRoom S.parts.requests.limit (log_facts S).parts (log_facts T).parts)
       → Acts (log_facts S) (log_facts T) (log_means S a) (log_means T b) a b moment wanted result
   call_acts result others silent standing damaged spent refused = record {
     stands = standing;
     others = others;
     silent = silent;
     keeps = call_keeps;
-    opens = run_opens S a b frames records moment (content_of S) step stands moves since T;
+    opens = run_opens S a b frames records moment (content_of S a.files) step stands moves since T;
     sound = λ is. is;
     undamaged = λ is d err. damaged d err;
     spent = spent;

@@ -1,17 +1,17 @@
-pub mod Counting
-mod Entering
-mod Foreign
-mod InOrder
-mod Noting
-mod Numbers
-mod Openings
-mod Readings
-mod Scans
-mod Settling
-pub mod SingleEntries
-pub mod Images
+pub mod Answering
 pub mod Changes
-pub mod Ruled
+pub mod Counting
+pub mod Entering
+pub mod Images
+pub mod Indexing
+pub mod Looks
+pub mod Opened
 pub mod Putting
+pub mod Rebuilt
+pub mod Roomed
+pub mod Ruled
+pub mod Shown
+pub mod SingleEntries
 pub mod Standing
+pub mod There
 pub mod Turning

@@ -1,32 +1,32 @@
 -- What a change is to the store, where the current file is closed before its record and where it isn't.
-use Rattle.std.proofs.Common.{◌≡◌, ◌⊎◌, ⊎_elim, inl, inr, ℕ, ◌+◌, ◌≤◌, ◌<◌, ◌==◌, true, false, Bool, List, [], ◌∷◌, ◌++◌, Option, Some, None, Contains, IsSome, is_some, refl, sym, ◌∙◌, ap, subst, arith}
-use Rattle.std.specs.Prelude.{Result, Ok, Err, if◌then◌else◌, ◌&&◌}
+use Rattle.std.proofs.Common.{◌≡◌, ◌⊎◌, ⊎_elim, inl, inr, ℕ, ◌+◌, ◌≤◌, ◌==◌, true, false, Bool, List, [], ◌∷◌, ◌++◌, Option, Some, None, Contains, IsSome, is_some, refl, sym, ◌∙◌, ap, subst, arith}
+use Rattle.std.specs.Prelude.{Ok, if◌then◌else◌, ◌&&◌}
 use Rattle.cache_model.specs.declared.entries.Change.{Change}
-use Rattle.cache_model.specs.declared.files.FileName.{FileName}
 use Rattle.cache_model.specs.declared.files.Place.{Place}
-use Rattle.cache_model.specs.declared.faults.StoreFault.{StoreFault}
-use Rattle.cache_model.specs.Files.{Image, file_in, is_name}
+use Rattle.cache_model.specs.Files.{Image, file_in}
 use Rattle.cache_model.specs.Items.{Item}
 use Rattle.cache_model.specs.DataFiles.{Frame, CountsFrames, IsUndamaged, placed_frames}
 use Rattle.cache_model.specs.Images.{log_name, IsCounted}
 use Rattle.cache_disk.specs.State.{HostState, Moves, SameBut}
-use Rattle.cache_disk.specs.Calls.{OnFile, HasFile}
-use Rattle.data_file.specs.Appending.{sealed, CountsOneOf}
+use Rattle.data_file.specs.Appending.{written}
 use Rattle.append_log.specs.declared.log_files.LogFiles.{LogFiles}
 use Rattle.append_log.specs.Current.{IsUsable as IsUsableLog, files_of, store_of, is_over, makes_file, next_file, next_file_of, record_size, tail_by}
+use Rattle.append_log.specs.Current as append
 use Rattle.data_file.specs.declared.appender.Appender.{Appender}
-use Rattle.append_log.specs.Standing.{Closed, Held, Stands, IsClosedIn, put_held}
+use Rattle.append_log.specs.Standing.{Closed, Held, IsClosedIn, put_held}
 use Rattle.append_log.specs.Calls.{CountsIf, IsPut, OnFiles, PutsBy, SameBeside}
 use Rattle.append_log.proofs.Holding.{next_most, waits-push}
 use Rattle.append_log.proofs.Steps.{current_alone, same_alone}
-use Rattle.store_trait.specs.Meaning.{Content, changed}
-use Rattle.store_trait.specs.Keeping.{Leaves, SameContent, SameWhere}
+use Rattle.store_trait.specs.Keeping.{Leaves, SameWhere}
 use Rattle.soft_index.specs.declared.log_store.LogStore.{LogStore}
-use Rattle.soft_index.specs.Store.{IsPutIn, IsWritten, frames_after, records_after, LogStands, SameOthers, closed_frames, closes, content_of, item_by, is_spent, main_files, next_of, number, owns_file, spent_by, waiting, writer}
+use Rattle.soft_index.specs.Store.{Holds, IsPutIn, IsWritten, frames_after, records_after, LogStands, closed_frames, closes, content_of, item_by, is_spent, main_files, next_of, number, owns_file, spent_by, waiting, writer}
 use Rattle.soft_index.specs.Laws.{cases_file}
-use Rattle.soft_index.proofs.Counting.{Counts, SameCounted, counted-within, counted-there, items-counted, no-contained, undamaged-counted}
+use Rattle.soft_index.proofs.Counting.{Counts, counted-within, counted-there, items-counted, no-contained, undamaged-counted}
 use Rattle.soft_index.proofs.Images.{CountsBeside, IsAsBefore, IsNewImage, counts_now, foreign_name, other_name, same_beside, sealed_image, step_since}
-use Rattle.soft_index.proofs.Standing.{stands_appended, stands_behind}
+use Rattle.data_file.proofs.Frame.{placed_of}
+use Rattle.compactor.specs.Counting.{CountSame}
+use Rattle.compactor.specs.Indexing.{AreIndexed}
+use Rattle.soft_index.proofs.Standing.{rotated_records, same_records, stands_appended, stands_behind}
 use Rattle.soft_index.proofs.Turning.{closed_cases, closed_last, named_main, to_main}
 use Rattle.cache_disk.proofs.Runs.{weaker}
 use Rattle.cache_model.specs.declared.faults.Spent.{Spent}
@@ -111,22 +111,22 @@ module _ (S : LogStore) (a : HostState) (frames : List Frame) (records : List It
       let no : false ≡ true = subst (λ (found : Option (List ℕ)). IsSome found) is some in
       cc
 
-  pub since_closed : IsAsBefore a c ⊎ IsNewImage (content_of S) moment c
+  pub since_closed : IsAsBefore a c ⊎ IsNewImage (content_of S a.files) moment c
   since_closed = from (file_in c (log_name (number S))) refl
     where
-      from : (found : Option (List ℕ)) → file_in c (log_name (number S)) ≡ found → IsAsBefore a c ⊎ IsNewImage (content_of S) moment c
+      from : (found : Option (List ℕ)) → file_in c (log_name (number S)) ≡ found → IsAsBefore a c ⊎ IsNewImage (content_of S a.files) moment c
       from None is = inl (as_before (gone counts is))
       from (Some bytes) is = ⊎_elim
           (λ old. inl (as_before (inr (record { bytes = bytes; there = is; file = old }))))
-          (λ new. inr (sealed_image (number S) frames records moment a.files c beside (record { bytes = bytes; there = is; file = new }) (content_of S) stands.content stands.sound))
+          (λ new. inr (sealed_image (number S) frames records moment a.files c beside (record { bytes = bytes; there = is; file = new }) (content_of S a.files) stands.content stands.sound))
           (closed_cases (waiting S) frames records moment bytes (step.file bytes is))
 
 -- each image of a change counts what one did before, or reads as the content before it
 pub since_put : (over : Bool) (S : LogStore) (a : HostState) (frames : List Frame) (records : List Item) (moment : ℕ) → LogStands S a frames records
-    → (d c : Image) → a.left a.turn d → OnFiles (main_files S) over (CountsIf over frames (closed_frames (waiting S) frames records moment)) d c → IsAsBefore a c ⊎ IsNewImage (content_of S) moment c
+    → (d c : Image) → a.left a.turn d → OnFiles (main_files S) over (CountsIf over frames (closed_frames (waiting S) frames records moment)) d c → IsAsBefore a c ⊎ IsNewImage (content_of S a.files) moment c
 since_put true S a frames records moment stands d c left step = since_closed S a frames records moment stands d c left step
 since_put false S a frames records moment stands d c left step =
-    step_since S a frames records moment (content_of S) (CountsFrames frames) (λ bytes. ⊥) stands (λ bytes counts. inl counts) (λ image bytes same there none. absurd none) d c left
+    step_since S a frames records moment (content_of S a.files) (CountsFrames frames) (λ bytes. ⊥) stands (λ bytes counts. inl counts) (λ image bytes same there none. absurd none) d c left
     (record { others = λ name apart. step.others name apart (λ over. let no : false ≡ true = over in cc); stays = step.stays; file = step.file })
 
 -- files of others are left alone
@@ -152,10 +152,10 @@ number_tail : (log : Option Appender) (file : ℕ) (unsealed : Bool) (tail : ℕ
 number_tail None file unsealed tail is = cc
 number_tail (Some log) file unsealed tail is = let same : (file, log.size, unsealed) ≡ tail = cc in (ap (λ (t : ℕ × ℕ × Bool). t.0) same, refl)
 
-pub number_after : (S T : LogStore) (change : Change) (moment : ℕ) (place : Place) → IsPut change moment (files_of S.log) (files_of T.log) place → number T ≡ (if closes S change then number S + 1 else number S)
+pub number_after : (S T : LogStore) (change : Change) (moment : ℕ) (place : Place) → IsPut change moment (files_of S.parts.log) (files_of T.parts.log) place → number T ≡ (if closes S change then number S + 1 else number S)
 number_after S T change moment place put =
     let tail = number_tail (writer T) (number T) (waiting T) (place.file, place.at + place.length, true) put.tail in
-    let after = number_next (writer S) (number S) (closes S change) (λ over. over_some (writer S) (files_of S.log).file_size (record_size (files_of S.log) change) over) in
+    let after = number_next (writer S) (number S) (closes S change) (λ over. over_some (writer S) (files_of S.parts.log).file_size (record_size (files_of S.parts.log) change) over) in
     omega (arith, tail.1, put.next_file, after)
 
 -- what the store holds after it
@@ -163,40 +163,56 @@ pub put_in : (over : Bool) (change : Change) (moment : ℕ) (S T : LogStore) (a 
     → (stands : LogStands S a frames records)
     → closes S change ≡ over
     → S.latest ≤ moment → T.latest ≡ moment
-    → IsUsableLog (files_of T.log) → store_of (files_of T.log) ≡ 0
+    → IsUsableLog (files_of T.parts.log) → store_of (files_of T.parts.log) ≡ 0
     → next_of T ≡ next_of S + 1
     → number T ≡ (if over then number S + 1 else number S)
-    → PutsBy over (item_by (next_of S) change) moment (record { closed = stands.log.0; frames = frames; records = records }) (main_files S) (files_of T.log) a b (Ok place)
-    → SameContent (changed change (content_of S)) (content_of T)
+    → PutsBy over (item_by (next_of S) change) moment (record { closed = stands.log.0; frames = frames; records = records }) (main_files S) (files_of T.parts.log) a b (Ok place)
+    → AreIndexed (Holds (number T) (placed_of (if over then [] else frames) ((if over then [] else records) ++ item_by (next_of S) change ∷ [])) b.files) T.parts
     → IsPutIn change moment frames records S T b
-put_in true change moment S T a b frames records place stands is late latest usable main next file puts content =
+put_in true change moment S T a b frames records place stands is late latest usable main next file puts indexed =
     let held : Held = record { closed = stands.log.0; frames = frames; records = records } in
     let more = closed_frames (waiting S) frames records moment in
     let one : Item = item_by (next_of S) change in
     let closed : Closed = record { number = number S; frames = more } in
-    let last = subst (λ (s : ℕ). IsClosedIn s b closed) main (closed_last (store_of (files_of T.log)) b stands.log.0 closed puts.stands.closed) in
+    let last = subst (λ (s : ℕ). IsClosedIn s b closed) main (closed_last (store_of (files_of T.parts.log)) b stands.log.0 closed puts.stands.closed) in
     record {
       holds = subst (λ (o : Bool). LogStands T b (if o then [] else frames) ((if o then [] else records) ++ one ∷ [])) (sym is)
           (stands_behind S T a b frames records moment (CountsIf true frames more) stands file puts.images puts.files (puts.closed refl) last change main
-          (stands.log.0 ++ closed ∷ [], to_main (files_of T.log) b (put_held true (waiting S) (number S) moment held one) main puts.stands)
-          (named_main (files_of T.log) main usable) content next late latest);
+          (stands.log.0 ++ closed ∷ [], to_main (files_of T.parts.log) b (put_held true (waiting S) (number S) moment held one) main puts.stands)
+          (named_main (files_of T.parts.log) main usable) indexed next late latest);
       closed = λ over. puts.closed refl;
     }
-put_in false change moment S T a b frames records place stands is late latest usable main next file puts content =
+put_in false change moment S T a b frames records place stands is late latest usable main next file puts indexed =
     let held : Held = record { closed = stands.log.0; frames = frames; records = records } in
     let more = closed_frames (waiting S) frames records moment in
     let one : Item = item_by (next_of S) change in
     record {
       holds = subst (λ (o : Bool). LogStands T b (if o then [] else frames) ((if o then [] else records) ++ one ∷ [])) (sym is)
           (stands_appended S T a b frames records (CountsFrames frames) stands file (current_alone (main_files S) a b frames more puts.images) (same_alone (main_files S) a.files b.files puts.files) change main
-          (stands.log.0, to_main (files_of T.log) b (put_held false (waiting S) (number S) moment held one) main puts.stands)
-          (named_main (files_of T.log) main usable) content next (omega (arith, late, latest)));
+          (stands.log.0, to_main (files_of T.parts.log) b (put_held false (waiting S) (number S) moment held one) main puts.stands)
+          (named_main (files_of T.parts.log) main usable) indexed next (omega (arith, late, latest)));
       closed = λ over. let no : false ≡ true = sym is ∙ over in cc;
     }
 
+-- the records that counted before it count still
+pub put_records : (over : Bool) (moment : ℕ) (one : Item) (S T : LogStore) (a b : HostState) (frames : List Frame) (records : List Item) (place : Place)
+    → (stands : LogStands S a frames records)
+    → store_of (files_of T.parts.log) ≡ 0
+    → number T ≡ (if over then number S + 1 else number S)
+    → PutsBy over one moment (record { closed = stands.log.0; frames = frames; records = records }) (main_files S) (files_of T.parts.log) a b (Ok place)
+    → CountSame (Holds (number S) (placed_of frames records) a.files) (Holds (number T) (placed_of (if over then [] else frames) (if over then [] else records)) b.files)
+put_records true moment one S T a b frames records place stands main file puts =
+    let more = closed_frames (waiting S) frames records moment in
+    let closed : Closed = record { number = number S; frames = more } in
+    let last = subst (λ (s : ℕ). IsClosedIn s b closed) main (closed_last (store_of (files_of T.parts.log)) b stands.log.0 closed puts.stands.closed) in
+    rotated_records S T a b frames records moment (CountsIf true frames more) stands file puts.images puts.files (puts.closed refl) last
+put_records false moment one S T a b frames records place stands main file puts =
+    let more = closed_frames (waiting S) frames records moment in
+    same_records S T a b frames records (CountsFrames frames) stands file (current_alone (main_files S) a b frames more puts.images) (same_alone (main_files S) a.files b.files puts.files)
+
 -- which number is spent
 
-pub spent_number : (S T : LogStore) (change : Change) (s : Spent) → spent_by S change ≡ Some s → (next_of T ≡ next_of S) × (next_file_of (files_of T.log) ≡ next_file_of (files_of S.log)) → is_spent T s
+pub spent_number : (S T : LogStore) (change : Change) (s : Spent) → spent_by S change ≡ Some s → (next_of T ≡ next_of S) × (next_file_of (files_of T.parts.log) ≡ next_file_of (files_of S.parts.log)) → is_spent T s
 spent_number S T change s is same = by_sequence (next_of S == 4611686018427387904) refl is
   where
     by_file : (b : Bool) → (makes_file (writer S) (closes S change) && next_file (writer S) (number S) == 4294967295) ≡ b → (if b then Some (Files 4294967295) else None) ≡ Some s → is_spent T s
@@ -248,3 +264,16 @@ sealed_in change moment frames records S M T b d sync file same put seals others
           others (log_name (number S)) (other_name (number M) (number S) (λ is. omega (arith, is, file ∙ ap (λ (o : Bool). if o then number S + 1 else number S) over)))
           ∙ put.closed over;
     }
+
+-- what the log's files and the settings say of a change is said of each store that has them
+pub written_from : (change : Change) (moment : ℕ) (frames : List Frame) (records : List Item) (S M T : LogStore) (b : HostState) → files_of M.parts.log ≡ files_of S.parts.log → M.sync_writes ≡ S.sync_writes
+    → IsWritten change moment frames records M T b → IsWritten change moment frames records S T b
+written_from change moment frames records S M T b files sync written_so = record {
+  file = subst (λ (f : LogFiles). number T ≡ (if append.closes f change then append.number_of f + 1 else append.number_of f)) files written_so.file;
+  holds = subst (λ (s : Bool). LogStands T b (frames_after s (if closes S change then [] else frames) (if closes S change then [] else records) (item_by (next_of S) change) moment) (records_after s (if closes S change then [] else records) (item_by (next_of S) change))) sync
+      (subst
+      (λ (f : LogFiles).
+      LogStands T b (frames_after M.sync_writes (if append.closes f change then [] else frames) (if append.closes f change then [] else records) (item_by (append.next_seq_of f) change) moment) (records_after M.sync_writes (if append.closes f change then [] else records) (item_by (append.next_seq_of f) change)))
+      files written_so.holds);
+  closed = subst (λ (f : LogFiles). append.closes f change ≡ true → file_in b.files (log_name (append.number_of f)) ≡ Some (written (closed_frames (append.is_unsealed f) frames records moment) [])) files written_so.closed;
+}

@@ -1,5 +1,5 @@
 -- What a store says goes over to the same store with a rule that says which keys may be forgotten.
-use Rattle.std.proofs.Common.{◌≡◌, ⊎_elim, inl, inr, sym, subst, Bool, ℕ, true, List, Option}
+use Rattle.std.proofs.Common.{◌≡◌, ◌≤◌, ⊎_elim, inl, inr, sym, ap, subst, arith, Bool, ℕ, true, List, Option}
 use Rattle.std.specs.Prelude.{Result, Ok, Err, OnOk}
 use Rattle.cache_model.specs.declared.entries.Answer.{Answer}
 use Rattle.cache_model.specs.declared.entries.Answer.TheVariants.{Known, Gone, Unknown}
@@ -11,7 +11,7 @@ use Rattle.cache_model.specs.declared.faults.StoreFault.{StoreFault}
 use Rattle.cache_disk.specs.State.{HostState}
 use Rattle.store_trait.specs.Meaning.{Reading, Content, read_in, key_of, changed, StoreFacts, StoreState}
 use Rattle.store_trait.specs.Keeping.{Keeps, IsOnly, IsSettled, IsKept, IsKeptAtMarks}
-use Rattle.store_trait.specs.Calls.{Acts, Plainly, DrawsNone, DrawsOne, DrawsBy, IsAnswer, Walked, Written, SyncedStore, Stepped}
+use Rattle.store_trait.specs.Calls.{Acts, Plainly, DrawsNone, DrawsOne, DrawsBy, IsAnswer, Walked, Written, SyncedStore, Stepped, known_bytes}
 use Rattle.store_trait.proofs.Alike.{alike_weaker}
 use Rattle.store_trait.proofs.Runs.{old_weaker, new_weaker, old_whole_weaker, new_whole_weaker}
 use Rattle.std.specs.Fn.{Shared}
@@ -182,3 +182,11 @@ module _ {F : Type 0} (g : Shared F (Bor (List ℕ) × Unit {0}) Bool) (rule : F
   gone_kept key Gone Gone is gone = is
   gone_kept key Gone Unknown is gone = cc
   gone_kept key Gone (Known entry) is gone = absurd is
+
+  -- what is answered has no more bytes
+  pub bytes_ruled : (key : List ℕ) (answer given : Answer) → IsRuled g rule key answer given → known_bytes key given ≤ known_bytes key answer
+  bytes_ruled key (Known entry) given is = omega (arith, ap (known_bytes key) is)
+  bytes_ruled key Unknown given is = omega (arith, ap (known_bytes key) is)
+  bytes_ruled key Gone Gone is = omega arith
+  bytes_ruled key Gone Unknown is = omega arith
+  bytes_ruled key Gone (Known entry) is = absurd is

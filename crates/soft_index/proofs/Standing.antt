@@ -1,13 +1,12 @@
 -- What a store stands for after a seal, a rotation or a change.
-use Rattle.std.proofs.Common.{◌≡◌, ◌⊎◌, ⊎_elim, inl, inr, ℕ, ◌+◌, ◌≤◌, ◌<◌, true, false, Bool, List, [], ◌∷◌, ◌++◌, Option, Some, None, Contains, IsSome, is_some, refl, sym, ◌∙◌, ap, subst, arith}
+use Rattle.std.proofs.Common.{◌≡◌, ◌⊎◌, ⊎_elim, inl, inr, ℕ, ◌+◌, ◌≤◌, ◌<◌, true, false, Bool, List, [], ◌∷◌, ◌++◌, Option, Some, None, Contains, IsSome, refl, sym, ◌∙◌, ap, subst, arith}
 use Rattle.std.proofs.lemmas.List.{append-nil}
 use Rattle.std.proofs.lemmas.List.Elements.{Contains-append_left, Contains-push_cases}
 use Rattle.cache_model.specs.declared.entries.Change.{Change}
-use Rattle.cache_model.specs.declared.files.FileName.{FileName}
 use Rattle.cache_model.proofs.Grammar.{counts-file}
-use Rattle.cache_model.specs.Files.{Image, file_in, is_name}
+use Rattle.cache_model.specs.Files.{Image, file_in}
 use Rattle.cache_model.specs.Items.{Item, end}
-use Rattle.cache_model.specs.DataFiles.{Frame, CountsFrames, AreFrames, IsUndamaged, placed_frames, file_spelling}
+use Rattle.cache_model.specs.DataFiles.{Frame, CountsFrames, IsUndamaged, placed_frames, file_spelling}
 use Rattle.cache_model.specs.Images.{log_name, IsCounted, key_of, sequence_of}
 use Rattle.cache_disk.specs.State.{HostState, Moves, SameBut}
 use Rattle.cache_disk.specs.Calls.{OnFile, AllLeft, HasFile}
@@ -19,13 +18,18 @@ use Rattle.append_log.specs.Current.{files_of, store_of}
 use Rattle.append_log.specs.Standing.{IsClosedIn, waits}
 use Rattle.append_log.specs.Calls.{OnFiles, SameBeside}
 use Rattle.append_log.proofs.Holding.{none_waits, next_most}
-use Rattle.store_trait.specs.Meaning.{Reading, Content, read_in, changed}
+use Rattle.compactor.specs.Counting.{Counts, CountSame}
+use Rattle.compactor.specs.Indexing.{AreIndexed}
+use Rattle.compactor.proofs.Rows.{reading_once, rows_read}
+use Rattle.compactor.proofs.RowsSame.{indexed_same}
+use Rattle.soft_index.proofs.There.{there_by}
+use Rattle.store_trait.specs.Meaning.{read_in}
 use Rattle.store_trait.specs.Keeping.{SameContent}
 use Rattle.soft_index.specs.declared.log_store.LogStore.{LogStore}
 use Rattle.soft_index.specs.Store.{item_by, closed_frames, HasReading, Holds, HoldsLog, SameOthers, IsNamed, LogStands, content_of, main_files, next_of, number, waiting, writer}
 use Rattle.soft_index.specs.Laws.{cases_file, reading-same, holds-there}
 use Rattle.soft_index.proofs.Counting.{counted-within, counted-there, undamaged-counted}
-use Rattle.soft_index.proofs.Images.{above_more, mark_more, other_name, reading_more}
+use Rattle.soft_index.proofs.Images.{above_more, mark_more, other_name}
 
 -- what counts, once what waits is sealed: the end of the frame besides
 
@@ -57,6 +61,27 @@ module _ (file : ℕ) (frames : List Frame) (records : List Item) (moment : ℕ)
   closed_only true is n at item holds = sealed_only n at item holds
   closed_only false is n at item holds = inl (subst (λ (l : List Item). Holds file (placed_of frames l) files n at item) (sym (none_waits records (sym is))) holds)
 
+-- what the parts stand for
+
+-- the parts stand for the same records
+pub indexed_by : {counts more : Counts} (T : LogStore) → CountSame counts more → AreIndexed counts T.parts → AreIndexed more T.parts
+indexed_by {counts} {more} T same indexed = indexed_same counts more T.parts.table T.parts.tree T.parts.requests.waiting same indexed
+
+-- what they read of the files that the log holds
+content_by : (T : LogStore) (b : HostState) (fs : List Frame) (rs : List Item) → HoldsLog (main_files T) b fs rs → IsNamed 0 (writer T) (number T)
+    → AreIndexed (Holds (number T) (placed_of fs rs) b.files) T.parts → (key : List ℕ) → HasReading (Holds (number T) (placed_of fs rs) b.files) key (read_in (content_of T b.files) key)
+content_by T b fs rs log named indexed =
+    rows_read (Holds (number T) (placed_of fs rs) b.files) b.files T.parts.table T.parts.tree T.parts.requests.waiting indexed (there_by T b fs rs log named)
+
+-- a store that stands for the same records as another reads the same
+pub content_same : (S T : LogStore) (a b : HostState) (frames fs : List Frame) (records rs : List Item) → LogStands S a frames records → LogStands T b fs rs
+    → CountSame (Holds (number S) (placed_of frames records) a.files) (Holds (number T) (placed_of fs rs) b.files)
+    → SameContent (content_of S a.files) (content_of T b.files)
+content_same S T a b frames fs records rs stands now same key =
+    reading_once (Holds (number T) (placed_of fs rs) b.files) b.files key (read_in (content_of T b.files) key) (read_in (content_of S a.files) key) (there_by T b fs rs now.log now.named) (now.content key)
+    (reading-same (Holds (number S) (placed_of frames records) a.files) (Holds (number T) (placed_of fs rs) b.files) key (read_in (content_of S a.files) key)
+    (λ n at item of_key holds. same.kept n at item key holds of_key) (λ n at item of_key holds. same.only n at item key holds of_key) (stands.content key))
+
 -- a call on the current file
 
 module _ (S T : LogStore) (a b : HostState) (frames : List Frame) (records : List Item) (P : List ℕ → Type 0)
@@ -77,68 +102,77 @@ module _ (S T : LogStore) (a b : HostState) (frames : List Frame) (records : Lis
       (λ d m is step n other. step.others (log_name n) (other_name (number S) n other) ∙ is n other)
 
   stands_after : (fs : List Frame) (rs : List Item)
-      → store_of (files_of T.log) ≡ 0 → HoldsLog (main_files T) b fs rs → IsNamed 0 (writer T) (number T)
-      → ((key : List ℕ) → HasReading (Holds (number S) (placed_of fs rs) a.files) key (read_in (content_of T) key))
+      → store_of (files_of T.parts.log) ≡ 0 → HoldsLog (main_files T) b fs rs → IsNamed 0 (writer T) (number T)
+      → AreIndexed (Holds (number T) (placed_of fs rs) b.files) T.parts
       → ((n at : ℕ) (item : Item) (key : List ℕ) → Holds (number S) (placed_of fs rs) a.files n at item → key_of item ≡ Some key → sequence_of item < next_of T)
       → ((n at m : ℕ) → Holds (number S) (placed_of fs rs) a.files n at (end m) → m ≤ T.latest)
       → LogStands T b fs rs
-  stands_after fs rs main log named content above mark = record {
+  stands_after fs rs main log named indexed above mark = record {
     main = main;
     log = log;
     named = named;
     others = subst (λ (f : ℕ). AllLeft b (λ image. SameOthers f b.files image)) (sym file) images_after;
     sound = λ n bytes other there. let apart = λ (is : n ≡ number S). other (is ∙ sym file) in stands.sound n bytes apart (sym (others_after n apart) ∙ there);
-    content = λ key.
-        subst (λ (f : ℕ). HasReading (Holds f (placed_of fs rs) b.files) key (read_in (content_of T) key)) (sym file)
-        (reading-same (Holds (number S) (placed_of fs rs) a.files) (Holds (number S) (placed_of fs rs) b.files) key (read_in (content_of T) key)
-        (λ n at item of_key. holds-there (number S) (placed_of fs rs) a.files b.files others_after n at item)
-        (λ n at item of_key. holds-there (number S) (placed_of fs rs) b.files a.files others_before n at item)
-        (content key));
+    indexed = indexed;
+    content = content_by T b fs rs log named indexed;
     above = λ n at item key counted.
         above n at item key (holds-there (number S) (placed_of fs rs) b.files a.files others_before n at item (subst (λ (f : ℕ). Holds f (placed_of fs rs) b.files n at item) file counted));
     mark = λ n at m counted.
         mark n at m (holds-there (number S) (placed_of fs rs) b.files a.files others_before n at (end m) (subst (λ (f : ℕ). Holds f (placed_of fs rs) b.files n at (end m)) file counted));
   }
 
+  -- what counts goes along with the files
+  holds_after : (items : List (ℕ × Item)) (n at : ℕ) (item : Item) → Holds (number S) items a.files n at item → Holds (number T) items b.files n at item
+  holds_after items n at item holds = subst (λ (f : ℕ). Holds f items b.files n at item) (sym file) (holds-there (number S) items a.files b.files others_after n at item holds)
+
+  holds_before : (items : List (ℕ × Item)) (n at : ℕ) (item : Item) → Holds (number T) items b.files n at item → Holds (number S) items a.files n at item
+  holds_before items n at item holds = holds-there (number S) items b.files a.files others_before n at item (subst (λ (f : ℕ). Holds f items b.files n at item) file holds)
+
+  pub same_records : CountSame (Holds (number S) (placed_of frames records) a.files) (Holds (number T) (placed_of frames records) b.files)
+  same_records = record {
+    kept = λ n at item key holds of_key. holds_after (placed_of frames records) n at item holds;
+    only = λ n at item key holds of_key. holds_before (placed_of frames records) n at item holds;
+  }
+
   -- the same frames and records
-  pub stands_same : store_of (files_of T.log) ≡ 0 → HoldsLog (main_files T) b frames records → IsNamed 0 (writer T) (number T) → SameContent (content_of S) (content_of T) → next_of T ≡ next_of S → S.latest ≤ T.latest → LogStands T b frames records
-  stands_same main log named content next late =
-      stands_after frames records main log named
-      (λ key. subst (λ (r : Reading). HasReading (Holds (number S) (placed_of frames records) a.files) key r) (sym (content key)) (stands.content key))
+  pub stands_same : store_of (files_of T.parts.log) ≡ 0 → HoldsLog (main_files T) b frames records → IsNamed 0 (writer T) (number T) → AreIndexed (Holds (number S) (placed_of frames records) a.files) T.parts → next_of T ≡ next_of S → S.latest ≤ T.latest → LogStands T b frames records
+  stands_same main log named indexed next late =
+      stands_after frames records main log named (indexed_by T same_records indexed)
       (λ n at item key counted of_key. omega (arith, stands.above n at item key counted of_key, next))
       (λ n at m counted. omega (arith, stands.mark n at m counted, late))
 
   -- one record more
-  pub stands_appended : (change : Change) → store_of (files_of T.log) ≡ 0 → HoldsLog (main_files T) b frames (records ++ item_by (next_of S) change ∷ []) → IsNamed 0 (writer T) (number T)
-      → SameContent (changed change (content_of S)) (content_of T) → next_of T ≡ next_of S + 1 → S.latest ≤ T.latest
+  pub stands_appended : (change : Change) → store_of (files_of T.parts.log) ≡ 0 → HoldsLog (main_files T) b frames (records ++ item_by (next_of S) change ∷ []) → IsNamed 0 (writer T) (number T)
+      → AreIndexed (Holds (number T) (placed_of frames (records ++ item_by (next_of S) change ∷ [])) b.files) T.parts → next_of T ≡ next_of S + 1 → S.latest ≤ T.latest
       → LogStands T b frames (records ++ item_by (next_of S) change ∷ [])
-  stands_appended change main log named content next late =
-      stands_after frames (records ++ item_by (next_of S) change ∷ []) main log named
-      (λ key.
-      subst (λ (r : Reading). HasReading (Holds (number S) (placed_of frames (records ++ item_by (next_of S) change ∷ [])) a.files) key r) (sym (content key))
-      (reading_more (number S) (next_of S) frames records a.files change stands.above (content_of S) key (stands.content key)))
+  stands_appended change main log named indexed next late =
+      stands_after frames (records ++ item_by (next_of S) change ∷ []) main log named indexed
       (λ n at item key counted of_key. omega (arith, above_more (number S) (next_of S) frames records a.files change stands.above n at item key counted of_key, next))
       (λ n at m counted. omega (arith, mark_more (number S) (next_of S) frames records a.files change S.latest stands.mark n at m counted, late))
 
   -- what waits is sealed
-  pub stands_sealed : (moment : ℕ) → store_of (files_of T.log) ≡ 0 → HoldsLog (main_files T) b (closed_frames (waiting S) frames records moment) [] → IsNamed 0 (writer T) (number T)
-      → SameContent (content_of S) (content_of T) → next_of T ≡ next_of S → S.latest ≤ moment → T.latest ≡ moment
-      → LogStands T b (closed_frames (waiting S) frames records moment) []
-  stands_sealed moment main log named content next late latest =
-      stands_after (closed_frames (waiting S) frames records moment) [] main log named
-      (λ key.
-      reading-same (Holds (number S) (placed_of frames records) a.files) (Holds (number S) (placed_of (closed_frames (waiting S) frames records moment) []) a.files) key (read_in (content_of T) key)
-      (λ n at item of_key. kept n at item)
-      (λ n at item of_key counted. ⊎_elim (λ was. was) (λ is. let no : None ≡ Some key = ap key_of (sym is) ∙ of_key in cc) (only n at item counted))
-      (subst (λ (r : Reading). HasReading (Holds (number S) (placed_of frames records) a.files) key r) (sym (content key)) (stands.content key)))
-      (λ n at item key counted of_key. ⊎_elim (λ was. omega (arith, stands.above n at item key was of_key, next)) (λ is. let no : None ≡ Some key = ap key_of (sym is) ∙ of_key in cc) (only n at item counted))
-      (λ n at m counted. ⊎_elim (λ was. omega (arith, stands.mark n at m was, late, latest)) (λ is. let one : m ≡ moment = cc in omega (arith, one, latest)) (only n at (end m) counted))
-    where
-      kept : (n at : ℕ) (item : Item) → Holds (number S) (placed_of frames records) a.files n at item → Holds (number S) (placed_of (closed_frames (waiting S) frames records moment) []) a.files n at item
-      kept = closed_kept (number S) frames records moment a.files (waiting S) stands.log.1.pending
 
-      only : (n at : ℕ) (item : Item) → Holds (number S) (placed_of (closed_frames (waiting S) frames records moment) []) a.files n at item → Holds (number S) (placed_of frames records) a.files n at item ⊎ (item ≡ end moment)
-      only = closed_only (number S) frames records moment a.files (waiting S) stands.log.1.pending
+  module _ (moment : ℕ) where
+    sealed_kept_here : (n at : ℕ) (item : Item) → Holds (number S) (placed_of frames records) a.files n at item → Holds (number S) (placed_of (closed_frames (waiting S) frames records moment) []) a.files n at item
+    sealed_kept_here = closed_kept (number S) frames records moment a.files (waiting S) stands.log.1.pending
+
+    sealed_only_here : (n at : ℕ) (item : Item) → Holds (number S) (placed_of (closed_frames (waiting S) frames records moment) []) a.files n at item → Holds (number S) (placed_of frames records) a.files n at item ⊎ (item ≡ end moment)
+    sealed_only_here = closed_only (number S) frames records moment a.files (waiting S) stands.log.1.pending
+
+    pub sealed_records : CountSame (Holds (number S) (placed_of frames records) a.files) (Holds (number T) (placed_of (closed_frames (waiting S) frames records moment) []) b.files)
+    sealed_records = record {
+      kept = λ n at item key holds of_key. holds_after (placed_of (closed_frames (waiting S) frames records moment) []) n at item (sealed_kept_here n at item holds);
+      only = λ n at item key holds of_key.
+          ⊎_elim (λ was. was) (λ is. let no : None ≡ Some key = ap key_of (sym is) ∙ of_key in cc) (sealed_only_here n at item (holds_before (placed_of (closed_frames (waiting S) frames records moment) []) n at item holds));
+    }
+
+    pub stands_sealed : store_of (files_of T.parts.log) ≡ 0 → HoldsLog (main_files T) b (closed_frames (waiting S) frames records moment) [] → IsNamed 0 (writer T) (number T)
+        → AreIndexed (Holds (number S) (placed_of frames records) a.files) T.parts → next_of T ≡ next_of S → S.latest ≤ moment → T.latest ≡ moment
+        → LogStands T b (closed_frames (waiting S) frames records moment) []
+    stands_sealed main log named indexed next late latest =
+        stands_after (closed_frames (waiting S) frames records moment) [] main log named (indexed_by T sealed_records indexed)
+        (λ n at item key counted of_key. ⊎_elim (λ was. omega (arith, stands.above n at item key was of_key, next)) (λ is. let no : None ≡ Some key = ap key_of (sym is) ∙ of_key in cc) (sealed_only_here n at item counted))
+        (λ n at m counted. ⊎_elim (λ was. omega (arith, stands.mark n at m was, late, latest)) (λ is. let one : m ≡ moment = cc in omega (arith, one, latest)) (sealed_only_here n at (end m) counted))
 
 -- a call that closes the current file
 
@@ -216,12 +250,11 @@ module _ (S T : LogStore) (a b : HostState) (frames : List Frame) (records : Lis
       (λ apart. stands.sound n bytes apart (sym (same_file n apart other) ∙ is))
       (cases_file n (number S))
 
-  before_content : (key : List ℕ) → HasReading (Holds (number T) (placed_of [] []) b.files) key (read_in (content_of S) key)
-  before_content key =
-      reading-same (Holds (number S) (placed_of frames records) a.files) (Holds (number T) (placed_of [] []) b.files) key (read_in (content_of S) key)
-      (λ n at item of_key. kept n at item)
-      (λ n at item of_key counted. ⊎_elim (λ was. was) (λ is. let no : None ≡ Some key = ap key_of (sym is) ∙ of_key in cc) (only n at item counted))
-      (stands.content key)
+  pub rotated_records : CountSame (Holds (number S) (placed_of frames records) a.files) (Holds (number T) (placed_of [] []) b.files)
+  rotated_records = record {
+    kept = λ n at item key holds of_key. kept n at item holds;
+    only = λ n at item key holds of_key. ⊎_elim (λ was. was) (λ is. let no : None ≡ Some key = ap key_of (sym is) ∙ of_key in cc) (only n at item holds);
+  }
 
   before_above : (n at : ℕ) (item : Item) (key : List ℕ) → Holds (number T) (placed_of [] []) b.files n at item → key_of item ≡ Some key → sequence_of item < next_of S
   before_above n at item key counted of_key =
@@ -232,33 +265,33 @@ module _ (S T : LogStore) (a b : HostState) (frames : List Frame) (records : Lis
       ⊎_elim (λ was. omega (arith, stands.mark n at m was, late)) (λ is. let one : m ≡ moment = cc in omega (arith, one)) (only n at (end m) counted)
 
   -- the next one isn't made yet
-  pub stands_rotated : store_of (files_of T.log) ≡ 0 → HoldsLog (main_files T) b [] [] → IsNamed 0 (writer T) (number T)
-      → SameContent (content_of S) (content_of T) → next_of T ≡ next_of S → S.latest ≤ moment → T.latest ≡ moment
+  pub stands_rotated : store_of (files_of T.parts.log) ≡ 0 → HoldsLog (main_files T) b [] [] → IsNamed 0 (writer T) (number T)
+      → AreIndexed (Holds (number S) (placed_of frames records) a.files) T.parts → next_of T ≡ next_of S → S.latest ≤ moment → T.latest ≡ moment
       → LogStands T b [] []
-  stands_rotated main log named content next late latest = record {
+  stands_rotated main log named indexed next late latest = record {
     main = main;
     log = log;
     named = named;
     others = images;
     sound = sound;
-    content = λ key. subst (λ (r : Reading). HasReading (Holds (number T) (placed_of [] []) b.files) key r) (sym (content key)) (before_content key);
+    indexed = indexed_by T rotated_records indexed;
+    content = content_by T b [] [] log named (indexed_by T rotated_records indexed);
     above = λ n at item key counted of_key. omega (arith, before_above n at item key counted of_key, next);
     mark = λ n at m counted. omega (arith, before_mark late n at m counted, latest);
   }
 
   -- the next one holds the record of a change
-  pub stands_behind : (change : Change) → store_of (files_of T.log) ≡ 0 → HoldsLog (main_files T) b [] (item_by (next_of S) change ∷ []) → IsNamed 0 (writer T) (number T)
-      → SameContent (changed change (content_of S)) (content_of T) → next_of T ≡ next_of S + 1 → S.latest ≤ moment → T.latest ≡ moment
+  pub stands_behind : (change : Change) → store_of (files_of T.parts.log) ≡ 0 → HoldsLog (main_files T) b [] (item_by (next_of S) change ∷ []) → IsNamed 0 (writer T) (number T)
+      → AreIndexed (Holds (number T) (placed_of [] (item_by (next_of S) change ∷ [])) b.files) T.parts → next_of T ≡ next_of S + 1 → S.latest ≤ moment → T.latest ≡ moment
       → LogStands T b [] (item_by (next_of S) change ∷ [])
-  stands_behind change main log named content next late latest = record {
+  stands_behind change main log named indexed next late latest = record {
     main = main;
     log = log;
     named = named;
     others = images;
     sound = sound;
-    content = λ key.
-        subst (λ (r : Reading). HasReading (Holds (number T) (placed_of [] (item_by (next_of S) change ∷ [])) b.files) key r) (sym (content key))
-        (reading_more (number T) (next_of S) [] [] b.files change before_above (content_of S) key (before_content key));
+    indexed = indexed;
+    content = content_by T b [] (item_by (next_of S) change ∷ []) log named indexed;
     above = λ n at item key counted of_key. omega (arith, above_more (number T) (next_of S) [] [] b.files change before_above n at item key counted of_key, next);
     mark = λ n at m counted. omega (arith, mark_more (number T) (next_of S) [] [] b.files change moment (before_mark late) n at m counted, latest);
   }

@@ -1,6 +1,6 @@
 -- What the log's own calls are to the store: a seal, a rotation and a put.
-use Rattle.std.proofs.Common.{◌≡◌, ◌⊎◌, ⊎_elim, inl, inr, ℕ, ◌+◌, ◌≤◌, ◌<◌, true, false, Bool, List, [], ◌∷◌, ◌++◌, Option, Some, None, IsSome, is_some, refl, sym, ◌∙◌, ap, subst, arith}
-use Rattle.std.specs.Prelude.{Result, Ok, Err, OnErr, IsErrOf, if◌then◌else◌}
+use Rattle.std.proofs.Common.{◌≡◌, ◌⊎◌, inl, inr, ℕ, ◌+◌, ◌≤◌, true, false, Bool, List, [], ◌∷◌, ◌++◌, Option, Some, None, IsSome, is_some, refl, sym, ◌∙◌, ap, subst, arith}
+use Rattle.std.specs.Prelude.{Result, Ok, IsErrOf, length}
 use Rattle.cache_model.specs.declared.faults.StoreFault.{StoreFault}
 use Rattle.cache_model.specs.declared.faults.StoreFault.TheVariants as fault
 use Rattle.cache_model.specs.declared.faults.Spent.{Spent}
@@ -8,32 +8,33 @@ use Rattle.cache_model.specs.declared.faults.Damage.{Damage}
 use Rattle.cache_model.specs.declared.replies.Turned.{Turned}
 use Rattle.cache_model.specs.declared.replies.Turned.TheVariants.{Done, Idle}
 use Rattle.cache_model.specs.declared.commands.StepKind.TheVariants.{Rotate}
-use Rattle.cache_model.specs.Files.{Image, file_in}
+use Rattle.cache_model.specs.Files.{Image, file_in, is_name}
 use Rattle.cache_model.specs.Items.{Item}
 use Rattle.cache_model.specs.DataFiles.{Frame, CountsFrames}
 use Rattle.cache_model.specs.Images.{log_name}
-use Rattle.cache_disk.specs.State.{HostState, Moves, SameBut, Silent}
-use Rattle.cache_disk.specs.State as disk
+use Rattle.cache_disk.specs.State.{HostState}
 use Rattle.cache_disk.specs.Calls.{OnFile}
 use Rattle.data_file.specs.declared.appender.Appender.{Appender}
 use Rattle.data_file.specs.Appending.{sealed, CountsOneOf}
+use Rattle.data_file.proofs.Frame.{placed_of}
+use Rattle.temporary_table.specs.Queue.{Queue}
 use Rattle.append_log.specs.declared.log_files.LogFiles.{LogFiles}
-use Rattle.append_log.specs.Current.{IsUsable as IsUsableLog, current_by, files_of, number_of, writer_of, tail_by, tail_of, store_of}
-use Rattle.append_log.specs.Standing.{Closed, Held, Stands, IsClosedIn, AreClosedIn, sealed_held, turned_held}
+use Rattle.append_log.specs.Current.{IsUsable as IsUsableLog, current_by, file_behind, file_of, files_of, number_of, writer_of, tail_by, tail_of, store_of}
+use Rattle.append_log.specs.Standing.{Closed, Held, Stands, IsClosedIn, AreClosedIn, turned_held}
 use Rattle.append_log.specs.Calls.{CountsIf, IsTurned, Seals, TakesNone, sealed_tail}
 use Rattle.append_log.proofs.Steps.{counts_now as log_counts, is_named, on_closed}
 use Rattle.append_log.proofs.Holding.{next_most, some_next}
 use Rattle.store_trait.specs.Meaning.{Content, Reading, StoreFacts, StoreState}
 use Rattle.store_trait.specs.Keeping.{IsKept, Leaves, SameContent, SameStore}
-use Rattle.store_trait.specs.Calls.{Acts, Stepped}
-use Rattle.store_trait.proofs.Runs.{keeps_then, leaves_then, opens_then}
+use Rattle.store_trait.specs.Calls.{Acts, Plainly, Stepped}
+use Rattle.store_trait.proofs.Runs.{keeps_then, leaves_then, opens_then, store_trans}
 use Rattle.cache_disk.proofs.Runs.{Silent-trans}
 use Rattle.cache_model.specs.declared.files.FileName.{FileName}
 use Rattle.soft_index.specs.declared.log_store.LogStore.{LogStore}
-use Rattle.soft_index.specs.Store.{HoldsLog, IsNamed, LogStands, Rotates, SameOthers, closed_frames, content_of, current_of, is_spent, log_facts, log_means, main_files, next_file, next_of, number, row_of, waiting, writer}
+use Rattle.soft_index.specs.Store.{IsNamed, LogStands, Rotates, SameOthers, closed_frames, content_of, current_of, is_spent, log_facts, log_means, main_files, next_file, number, row_of, waiting, writer}
 use Rattle.soft_index.proofs.Images.{IsAsBefore, IsNewImage, call_acts, leaves_others, same_beside, sealed_image, step_since}
-use Rattle.soft_index.proofs.Changes.{IsAsWas, as_was, same_parts, still_stands}
-use Rattle.soft_index.proofs.Standing.{stands_same, stands_sealed, stands_rotated}
+use Rattle.soft_index.proofs.Changes.{SameParts, parts_indexed}
+use Rattle.soft_index.proofs.Standing.{content_same, rotated_records, same_records, stands_same, stands_rotated}
 
 -- the main store's log
 
@@ -59,33 +60,33 @@ closed_cases false frames records moment bytes (inr counts) = inl counts
 -- an image that counts the frame as it stands
 pub seal_image : (S : LogStore) (a : HostState) (frames : List Frame) (records : List Item) (moment : ℕ) → LogStands S a frames records
     → (image : Image) (bytes : List ℕ) → SameOthers (number S) a.files image → file_in image (log_name (number S)) ≡ Some bytes → CountsFrames (sealed frames records moment) bytes
-    → IsNewImage (content_of S) moment image
+    → IsNewImage (content_of S a.files) moment image
 seal_image S a frames records moment stands image bytes same there counts =
-    sealed_image (number S) frames records moment a.files image (same_beside (number S) a.files image same) (record { bytes = bytes; there = there; file = counts }) (content_of S) stands.content stands.sound
+    sealed_image (number S) frames records moment a.files image (same_beside (number S) a.files image same) (record { bytes = bytes; there = there; file = counts }) (content_of S a.files) stands.content stands.sound
 
 -- each image of a seal counts what one did before, or reads as the content
 pub since_seal : (S : LogStore) (a : HostState) (frames : List Frame) (records : List Item) (moment : ℕ) → LogStands S a frames records
-    → (d c : Image) → a.left a.turn d → OnFile (log_name (number S)) (CountsOneOf frames (closed_frames (waiting S) frames records moment)) d c → IsAsBefore a c ⊎ IsNewImage (content_of S) moment c
+    → (d c : Image) → a.left a.turn d → OnFile (log_name (number S)) (CountsOneOf frames (closed_frames (waiting S) frames records moment)) d c → IsAsBefore a c ⊎ IsNewImage (content_of S a.files) moment c
 since_seal S a frames records moment stands =
-    step_since S a frames records moment (content_of S) (CountsOneOf frames (closed_frames (waiting S) frames records moment)) (CountsFrames (sealed frames records moment)) stands
+    step_since S a frames records moment (content_of S a.files) (CountsOneOf frames (closed_frames (waiting S) frames records moment)) (CountsFrames (sealed frames records moment)) stands
     (closed_cases (waiting S) frames records moment) (seal_image S a frames records moment stands)
 
 -- a call that seals
 pub sealing_acts : {R : Type 0} (S T : LogStore) (a b : HostState) (frames : List Frame) (records : List Item) (moment : ℕ) (closed : List Closed) (after : R → Held) (G : LogFiles) (result : Result R StoreFault)
     → LogStands S a frames records
-    → S.spoilt ≡ false → S.latest ≤ moment → T.latest ≡ moment
+    → S.parts.spoilt ≡ false → S.latest ≤ moment → T.latest ≡ moment
     → Seals moment (record { closed = closed; frames = frames; records = records }) after (main_files S) G a b result
-    → SameContent (content_of S) (content_of T)
-    → (T.spoilt ≡ false → (fs : List Frame) × (rs : List Item) × LogStands T b fs rs)
+    → (T.parts.spoilt ≡ false → SameContent (content_of S a.files) (content_of T b.files))
+    → (T.parts.spoilt ≡ false → (fs : List Frame) × (rs : List Item) × LogStands T b fs rs)
     → ((d : Damage) → IsErrOf result (fault.Damaged d) → ⊥)
     → ((s : Spent) → IsErrOf result (fault.Spent s) → ⊥)
-    → (IsErrOf result fault.Memory → T.spoilt ≡ false → (log_facts T).parts ≡ (log_facts S).parts)
-    → Acts (log_facts S) (log_facts T) (log_means S a) (log_means T b) a b moment (content_of S) result
+    → (IsErrOf result fault.Memory → T.parts.spoilt ≡ false → (log_facts T).parts ≡ (log_facts S).parts)
+    → Acts (log_facts S) (log_facts T) (log_means S a) (log_means T b) a b moment (content_of S a.files) result
 sealing_acts S T a b frames records moment closed after G result stands sound late latest told content standing damaged spent parts =
-    call_acts S T a b frames records moment (content_of S) (OnFile (log_name (number S)) (CountsOneOf frames (closed_frames (waiting S) frames records moment)))
-    stands told.images (since_seal S a frames records moment stands) sound late latest (λ unspoilt. inl content)
+    call_acts S T a b frames records moment (content_of S a.files) (OnFile (log_name (number S)) (CountsOneOf frames (closed_frames (waiting S) frames records moment)))
+    stands told.images (since_seal S a frames records moment stands) sound late latest (λ unspoilt. inl (content unspoilt))
     result (leaves_others (number S) a b (CountsOneOf frames (closed_frames (waiting S) frames records moment)) told.files told.images) told.silent standing damaged (λ s err. absurd (spent s err))
-    (λ err unspoilt. (content, parts err unspoilt))
+    (λ err unspoilt. (content unspoilt, inl (parts err unspoilt)))
 
 -- parts
 
@@ -97,11 +98,19 @@ pub sealed_current : (tail : Option (ℕ × ℕ × Bool)) → current_by (sealed
 sealed_current None = refl
 sealed_current (Some tail) = refl
 
-pub parts_of : (S : LogStore) → (log_facts S).parts ≡ row_of (current_by (tail_of (files_of S.log)))
-parts_of S = ap row_of (current_tail (writer S) (number S) (waiting S))
+pub parts_of : (S : LogStore) → (log_facts S).parts ≡ row_of (length S.parts.requests.waiting) (current_by (tail_of (files_of S.parts.log)))
+parts_of S = ap (λ (c : Option ℕ). row_of (length S.parts.requests.waiting) c) (current_tail (writer S) (number S) (waiting S))
 
-pub sealed_parts : (S T : LogStore) → tail_of (files_of T.log) ≡ sealed_tail (tail_of (files_of S.log)) → (log_facts T).parts ≡ (log_facts S).parts
-sealed_parts S T tail = parts_of T ∙ ap row_of (ap current_by tail ∙ sealed_current (tail_of (files_of S.log))) ∙ sym (parts_of S)
+-- as many requests wait as before
+pub row_waits : (S T : LogStore) (current : Option ℕ) → T.parts.requests ≡ S.parts.requests → row_of (length T.parts.requests.waiting) current ≡ row_of (length S.parts.requests.waiting) current
+row_waits S T current same = ap (λ (q : Queue). row_of (length q.waiting) current) same
+
+pub sealed_parts : (S T : LogStore) → T.parts.requests ≡ S.parts.requests → tail_of (files_of T.parts.log) ≡ sealed_tail (tail_of (files_of S.parts.log)) → (log_facts T).parts ≡ (log_facts S).parts
+sealed_parts S T same tail =
+    parts_of T
+    ∙ ap (λ (c : Option ℕ). row_of (length T.parts.requests.waiting) c) (ap current_by tail ∙ sealed_current (tail_of (files_of S.parts.log)))
+    ∙ row_waits S T (current_by (tail_of (files_of S.parts.log))) same
+    ∙ sym (parts_of S)
 
 -- a rotation
 
@@ -117,59 +126,75 @@ pub closed_last : (store : ℕ) (b : HostState) (files : List Closed) (one : Clo
 closed_last store b [] one all = all.0
 closed_last store b (file ∷ files) one all = closed_last store b files one all.1
 
-pub turned_rows : (turned : Turned) (moment : ℕ) (S T : LogStore) → IsTurned moment turned (files_of S.log) (files_of T.log) → Rotates turned (log_facts S).parts (log_facts T).parts
-turned_rows Idle moment S T is = (parts_of S ∙ ap row_of (ap current_by is.0), ap (λ (f : LogFiles). row_of (current_of (writer_of f) (number_of f))) is.1)
-turned_rows Done moment S T is = ((number S, parts_of S ∙ ap row_of (some_current (writer S) (number S) (waiting S) is.0).1), parts_of T ∙ ap row_of (ap current_by is.1))
+pub turned_rows : (turned : Turned) (moment : ℕ) (S T : LogStore) → T.parts.requests ≡ S.parts.requests → IsTurned moment turned (files_of S.parts.log) (files_of T.parts.log) → Rotates turned (log_facts S).parts (log_facts T).parts
+turned_rows Idle moment S T same is = (
+  length S.parts.requests.waiting,
+  parts_of S ∙ ap (λ (c : Option ℕ). row_of (length S.parts.requests.waiting) c) (ap current_by is.0),
+  ap (λ (f : LogFiles). row_of (length T.parts.requests.waiting) (current_of (writer_of f) (number_of f))) is.1 ∙ row_waits S T (current_of (writer S) (number S)) same,
+)
+turned_rows Done moment S T same is = (
+  length S.parts.requests.waiting,
+  number S,
+  parts_of S ∙ ap (λ (c : Option ℕ). row_of (length S.parts.requests.waiting) c) (some_current (writer S) (number S) (waiting S) is.0).1,
+  parts_of T ∙ ap (λ (c : Option ℕ). row_of (length T.parts.requests.waiting) c) (ap current_by is.1) ∙ row_waits S T None same,
+)
 
 pub turned_told : (turned : Turned) (S T : LogStore) (a b : HostState) (frames : List Frame) (records : List Item) (moment : ℕ)
     → (stands : LogStands S a frames records)
-    → S.spoilt ≡ false → S.latest ≤ moment → T.latest ≡ moment
-    → IsUsableLog (files_of T.log) → store_of (files_of T.log) ≡ 0
-    → TakesNone (files_of S.log) (files_of T.log)
-    → IsTurned moment turned (files_of S.log) (files_of T.log)
-    → Seals moment (record { closed = stands.log.0; frames = frames; records = records }) (λ t. turned_held t (waiting S) (number S) moment (record { closed = stands.log.0; frames = frames; records = records })) (main_files S) (files_of T.log) a b (Ok turned)
-    → SameContent (content_of S) (content_of T)
+    → S.parts.spoilt ≡ false → S.latest ≤ moment → T.latest ≡ moment
+    → IsUsableLog (files_of T.parts.log) → store_of (files_of T.parts.log) ≡ 0
+    → TakesNone (files_of S.parts.log) (files_of T.parts.log)
+    → IsTurned moment turned (files_of S.parts.log) (files_of T.parts.log)
+    → Seals moment (record { closed = stands.log.0; frames = frames; records = records }) (λ t. turned_held t (waiting S) (number S) moment (record { closed = stands.log.0; frames = frames; records = records })) (main_files S) (files_of T.parts.log) a b (Ok turned)
+    → SameParts S T
     → Stepped Rotate (log_facts S) (log_facts T) (log_means S a) (log_means T b) a b moment (Ok turned)
-turned_told Idle S T a b frames records moment stands sound late latest usable main takes is told content =
+turned_told Idle S T a b frames records moment stands sound late latest usable main takes is told same =
     let held : Held = record { closed = stands.log.0; frames = frames; records = records } in
+    let P = CountsOneOf frames (closed_frames (waiting S) frames records moment) in
+    let file : number T ≡ number S = ap number_of is.1 in
+    let now : LogStands T b frames records =
+    stands_same S T a b frames records P stands file told.images told.files main
+    (stands.log.0, to_main (files_of T.parts.log) b held main told.stands) (named_main (files_of T.parts.log) main usable)
+    (parts_indexed S T same (record { number = number S; items = placed_of frames records; files = a.files }) stands.indexed) takes.0 (omega (arith, late, latest))
+    in
+    let content : SameContent (content_of S a.files) (content_of T b.files) = content_same S T a b frames frames records records stands now (same_records S T a b frames records P stands file told.images told.files) in
     record {
-      acts = sealing_acts S T a b frames records moment stands.log.0 (λ (t : Turned). turned_held t (waiting S) (number S) moment held) (files_of T.log) (Ok Idle) stands sound late latest told content
-          (λ unspoilt. (
-            frames,
-            records,
-            stands_same S T a b frames records (CountsOneOf frames (closed_frames (waiting S) frames records moment)) stands (ap number_of is.1) told.images told.files main
-                (stands.log.0, to_main (files_of T.log) b held main told.stands) (named_main (files_of T.log) main usable) content takes.0 (omega (arith, late, latest)),
-          ))
+      acts = sealing_acts S T a b frames records moment stands.log.0 (λ (t : Turned). turned_held t (waiting S) (number S) moment held) (files_of T.parts.log) (Ok Idle) stands sound late latest told (λ unspoilt. content)
+          (λ unspoilt. (frames, records, now))
           (λ d err. cc) (λ s err. cc) (λ err. cc);
       content = λ key. inl (content key);
       marks = λ key r m may. inl (content key);
-      parts = turned_rows Idle moment S T is;
+      parts = turned_rows Idle moment S T same.2 is;
     }
-turned_told Done S T a b frames records moment stands sound late latest usable main takes is told content =
+turned_told Done S T a b frames records moment stands sound late latest usable main takes is told same =
     let held : Held = record { closed = stands.log.0; frames = frames; records = records } in
     let more = closed_frames (waiting S) frames records moment in
+    let P = CountsIf true frames more in
     let one : Closed = record { number = number S; frames = more } in
     let some = some_current (writer S) (number S) (waiting S) is.0 in
     let file : number T ≡ number S + 1 = sym (none_next (writer T) (number T) (waiting T) is.1) ∙ takes.1 ∙ some_next (writer S) (number S) some.0 in
-    let last = subst (λ (s : ℕ). IsClosedIn s b one) main (closed_last (store_of (files_of T.log)) b stands.log.0 one told.stands.closed) in
+    let last = subst (λ (s : ℕ). IsClosedIn s b one) main (closed_last (store_of (files_of T.parts.log)) b stands.log.0 one told.stands.closed) in
     let moves = on_closed (main_files S) a frames more (stands.log.1.absent (number S + 1) (next_most (writer S) (number S))) (log_counts 0 (writer S) (number S) a frames records stands.named stands.log.1.current) b told.images in
+    let beside = λ (name : FileName) (apart : is_name (file_of (main_files S)) name ≡ false) (behind : true ≡ true → is_name (file_behind (main_files S)) name ≡ false). told.files name apart in
+    let now : LogStands T b [] [] =
+    stands_rotated S T a b frames records moment P stands file moves beside (told.reads some.0) last main
+    (stands.log.0 ++ one ∷ [], to_main (files_of T.parts.log) b (turned_held Done (waiting S) (number S) moment held) main told.stands) (named_main (files_of T.parts.log) main usable)
+    (parts_indexed S T same (record { number = number S; items = placed_of frames records; files = a.files }) stands.indexed) takes.0 late latest
+    in
+    let content : SameContent (content_of S a.files) (content_of T b.files) =
+    content_same S T a b frames [] records [] stands now (rotated_records S T a b frames records moment P stands file moves beside (told.reads some.0) last) in
     record {
-      acts = sealing_acts S T a b frames records moment stands.log.0 (λ (t : Turned). turned_held t (waiting S) (number S) moment held) (files_of T.log) (Ok Done) stands sound late latest told content
-          (λ unspoilt. (
-            [],
-            [],
-            stands_rotated S T a b frames records moment (CountsIf true frames more) stands file moves (λ name apart behind. told.files name apart) (told.reads some.0) last main
-                (stands.log.0 ++ one ∷ [], to_main (files_of T.log) b (turned_held Done (waiting S) (number S) moment held) main told.stands) (named_main (files_of T.log) main usable) content takes.0 late latest,
-          ))
+      acts = sealing_acts S T a b frames records moment stands.log.0 (λ (t : Turned). turned_held t (waiting S) (number S) moment held) (files_of T.parts.log) (Ok Done) stands sound late latest told (λ unspoilt. content)
+          (λ unspoilt. ([], [], now))
           (λ d err. cc) (λ s err. cc) (λ err. cc);
       content = λ key. inl (content key);
       marks = λ key r m may. inl (content key);
-      parts = turned_rows Done moment S T is;
+      parts = turned_rows Done moment S T same.2 is;
     }
 
 -- the same call, where the store is spoilt after it
 pub acts_spoilt : {R : Type 0} (S N T : LogStore) (a b : HostState) (moment : ℕ) (wanted : Content) (result : Result R StoreFault)
-    → T.spoilt ≡ true
+    → T.parts.spoilt ≡ true
     → ((s : Spent) → is_spent N s → is_spent T s)
     → Acts (log_facts S) (log_facts N) (log_means S a) (log_means N b) a b moment wanted result
     → Acts (log_facts S) (log_facts T) (log_means S a) (log_means T b) a b moment wanted result
@@ -199,15 +224,16 @@ acts_spoilt S N T a b moment wanted result spoilt spent acts = record {
     back_whole t c m (inl pair) = inl pair
     back_whole t c m (inr here) = let no : true ≡ false = sym spoilt ∙ here.0 in cc
 
--- a call, and then one that isn't refused for want of memory but spoils the store
+-- two calls, one after the other
 pub acts_both : {T U : Type 0} (f g h : StoreFacts) (s t u : StoreState) (a b c : HostState) (moment : ℕ) (w v : Content) (one : Result T StoreFault) (two : Result U StoreFault)
     → SameStore f g
     → Acts f g s t a b moment w one
     → Acts g h t u b c moment v two
     → IsKept f moment w v
-    → (IsErrOf two fault.Memory → h.spoilt ≡ false → ⊥)
+    → (IsErrOf two fault.Memory → h.spoilt ≡ false → IsKept f moment s.content u.content)
+    → (IsErrOf two fault.Memory → h.spoilt ≡ false → f.room f.parts h.parts)
     → Acts f h s u a c moment w two
-acts_both f g h s t u a b c moment w v one two same first second wanted never = record {
+acts_both f g h s t u a b c moment w v one two same first second wanted refused room = record {
   stands = second.stands;
   others = leaves_then f.owns false a b c first.others (subst (λ (owns : FileName → Bool). Leaves owns false b c) same.owns second.others);
   silent = Silent-trans a b c first.others.images.later second.others.images.later first.silent second.silent;
@@ -216,6 +242,18 @@ acts_both f g h s t u a b c moment w v one two same first second wanted never = 
   sound = λ is. second.sound (first.sound is);
   undamaged = λ is. second.undamaged (first.sound is);
   spent = second.spent;
-  refused = λ err sound. absurd (never err sound);
-  room = λ err sound. absurd (never err sound);
+  refused = refused;
+  room = room;
+}
+
+-- what two calls say whatever the host tells, one after the other, is what the second one says
+pub plainly_then : {T U : Type 0} (f g h : StoreFacts) (moment : ℕ) (one : Result T StoreFault) (two : Result U StoreFault) → Plainly f g moment one → Plainly g h moment two → Plainly f h moment two
+plainly_then f g h moment one two first second = record {
+  same = store_trans f g h first.same second.same;
+  usable = second.usable;
+  unspoilt = second.unspoilt;
+  spoilt = second.spoilt;
+  late = second.late;
+  sequence = second.sequence;
+  files = second.files;
 }

@@ -1,17 +1,21 @@
 -- What a store with its rule stands for, and what it is to open one.
-use Rattle.std.specs.Prelude.{◌≡◌, ℕ, Bool, List, Some, None}
+use Rattle.std.specs.Prelude.{◌≡◌, ℕ, ◌≤◌, Bool, List, Some, None}
 use Rattle.std.specs.Fn.{Shared, always_fn}
 use denote.Ref.{Bor}
+use Rattle.cache_model.specs.declared.entries.Change.{Change}
+use Rattle.cache_model.specs.declared.commands.StepKind.{StepKind}
+use Rattle.cache_model.specs.declared.replies.Turned.{Turned}
 use Rattle.cache_model.specs.declared.settings.Settings.{Settings}
 use Rattle.cache_model.specs.Files.{Image}
 use Rattle.cache_model.specs.Images.{IsCounted, IsMark, IsSound}
 use Rattle.cache_model.specs.Numbers.{IsNextSequence, IsNextFile}
-use Rattle.cache_disk.specs.State.{HostState, SameFiles, Silent, Moves}
-use Rattle.store_trait.specs.Meaning.{Numbers, StoreFacts, StoreState, read_in}
+use Rattle.cache_disk.specs.State.{HostState}
+pub use Rattle.rebuild.specs.Rebuilt.{IsRead}
+use Rattle.store_trait.specs.Meaning.{Numbers, Row, StoreFacts, StoreState, read_in}
 use Rattle.soft_index.specs.declared.log_store.LogStore.{LogStore}
 use Rattle.soft_index.specs.declared.soft_index.SoftIndex.{SoftIndex}
 use Rattle.soft_index.specs.Rule.{AnswersAlike, Allows, ruled}
-use Rattle.soft_index.specs.Store.{IsUsable, HasReading, row_of, log_facts, log_means}
+use Rattle.soft_index.specs.Store.{IsUsable, HasReading, MakesRoom, Queues, StepsBy, row_of, log_facts, log_means}
 
 module _ {F : Type 0} (g : Shared F (Bor (List ℕ) × Unit {0}) Bool) where
   -- a rule may be called on every key, and answers equal keys alike
@@ -35,7 +39,7 @@ abbrev pub index_means : {F : Type 0} → SoftIndex F → HostState → StoreSta
 index_means store state = log_means store.log state
 
 -- The store was opened from these files: it has their content and mark, it goes on with the next numbers, and it goes by
--- the settings.
+-- the settings. Nothing waits for its index.
 pub record IsStarted (files : Image) (settings : Settings) (facts : StoreFacts) (state : StoreState) (mark : ℕ) : Type 0 where
   pub stands : state.stands
   pub content : (key : List ℕ) → HasReading (IsCounted files) key (read_in state.content key)
@@ -43,12 +47,12 @@ pub record IsStarted (files : Image) (settings : Settings) (facts : StoreFacts) 
   pub latest : facts.latest ≡ mark
   pub undamaged : IsSound files
   pub numbers : (next : Numbers) × (facts.numbers ≡ Some next) × IsNextSequence files next.sequence × IsNextFile files next.file
+  pub drawn : facts.drawn ≤ numbers.0.sequence
+  pub made : facts.made ≤ numbers.0.file
   pub bits : facts.bits ≡ settings.hash_bits
   pub firm : facts.firm ≡ settings.sync_writes
-  pub parts : facts.parts ≡ row_of None
-
--- The files were read, and were told to outlast a crash: each is as it was, and so is each image.
-pub record IsRead (old new : HostState) : Type 0 where
-  pub files : SameFiles old.files new.files
-  pub images : Moves old new SameFiles
-  pub silent : Silent old new
+  pub parts : facts.parts ≡ row_of 0 None
+  pub moves : (change : Change) (a b : List Row) → facts.moves change a b → Queues settings.queue a b
+  pub empties : (a b : List Row) → facts.empties a b → b ≡ a
+  pub room : (a b : List Row) → facts.room a b → MakesRoom settings.queue a b
+  pub steps : (kind : StepKind) (turned : Turned) (a b : List Row) → state.steps kind turned a b → StepsBy kind turned a b

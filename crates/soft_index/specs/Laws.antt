@@ -9,9 +9,10 @@ use Rattle.cache_disk.specs.State.{HostState}
 use Rattle.cache_disk.specs.Calls.{AllLeft}
 use Rattle.cache_disk.proofs.Runs.{left_still}
 use Rattle.data_file.specs.declared.appender.Appender.{Appender}
-use Rattle.data_file.specs.Appending.{name_of}
 use Rattle.data_file.proofs.Frame.{placed_of, counted_now}
-use Rattle.store_trait.specs.Meaning.{Reading, read_in}
+use Rattle.compactor.proofs.Rows.{rows_same}
+use Rattle.compactor.proofs.RowsSame.{indexed_same}
+use Rattle.store_trait.specs.Meaning.{Content, Reading, read_in}
 use Rattle.store_trait.specs.Keeping.{HoldsNow, Carries, Leaves, SameWhere}
 use Rattle.soft_index.specs.declared.log_store.LogStore.{LogStore}
 use Rattle.soft_index.specs.Store.{HasReading, Holds, SameOthers, IsNamed, IsFileOf, LogStands, content_of, main_files, number, writer, owns_file, log_facts, log_means}
@@ -68,7 +69,7 @@ sound_of S a frames records stands image left n bytes there = ⊎_elim same othe
     same : n ≡ (number S) → IsUndamaged bytes
     same is = in_log (writer S) stands.named stands.log.1.current (ap (λ k. file_in image (log_name k)) (sym is) ∙ there)
 
-pub log_holds : (S : LogStore) (a : HostState) (frames : List Frame) (records : List Item) → S.spoilt ≡ false → LogStands S a frames records → HoldsNow (log_facts S) (log_means S a) a.turn
+pub log_holds : (S : LogStore) (a : HostState) (frames : List Frame) (records : List Item) → S.parts.spoilt ≡ false → LogStands S a frames records → HoldsNow (log_facts S) (log_means S a) a.turn
 log_holds S a frames records sound stands = record {
   each = λ key m late. inr (sound, refl, refl, late);
   whole = λ m late. inr (sound, refl, λ key. refl, late);
@@ -84,6 +85,10 @@ others_same file a b same n apart = same (log_name n) refl
 
 others_back : (file : ℕ) (a b : Image) → SameOthers file a b → SameOthers file b a
 others_back file a b same n apart = sym (same n apart)
+
+-- and the content stays
+same_content : (S : LogStore) (a b : HostState) → Leaves owns_file true a b → content_of S b.files ≡ content_of S a.files
+same_content S a b leaves = rows_same a.files b.files S.parts.table S.parts.tree (λ n. leaves.files (log_name n) refl)
 
 stands_there : (S : LogStore) (a b : HostState) (frames : List Frame) (records : List Item) → Leaves owns_file true a b → LogStands S a frames records → LogStands S b frames records
 stands_there S a b frames records leaves stands =
@@ -102,10 +107,13 @@ stands_there S a b frames records leaves stands =
           (λ image left n apart. stands.others image left n apart ∙ sym (same n apart))
           (λ d m is step n apart. step (log_name n) refl ∙ is n apart);
       sound = λ n bytes apart there. stands.sound n bytes apart (sym (same n apart) ∙ there);
-      content = λ key. reading-same (Holds (number S) items a.files) (Holds (number S) items b.files) key (read_in (content_of S) key)
+      indexed = indexed_same (Holds (number S) items a.files) (Holds (number S) items b.files) S.parts.table S.parts.tree S.parts.requests.waiting
+          (record { kept = λ n at item key holds of_key. holds-there (number S) items a.files b.files same n at item holds; only = λ n at item key holds of_key. holds-there (number S) items b.files a.files back n at item holds })
+          stands.indexed;
+      content = λ key. reading-same (Holds (number S) items a.files) (Holds (number S) items b.files) key (read_in (content_of S b.files) key)
           (λ n at item of_key. holds-there (number S) items a.files b.files same n at item)
           (λ n at item of_key. holds-there (number S) items b.files a.files back n at item)
-          (stands.content key);
+          (subst (λ (c : Content). HasReading (Holds (number S) items a.files) key (read_in c key)) (sym (same_content S a b leaves)) (stands.content key));
       above = λ n at item key counted. stands.above n at item key (holds-there (number S) items b.files a.files back n at item counted);
       mark = λ n at m counted. stands.mark n at m (holds-there (number S) items b.files a.files back n at (end m) counted);
     }
@@ -132,17 +140,17 @@ mark_back a b mark same is = record {
 pub log_carries : (S : LogStore) (a b : HostState) → Leaves (log_facts S).owns true a b → Carries a.turn b.turn (log_means S a) (log_means S b)
 log_carries S a b leaves = record {
   stands = λ stands. (stands.0, stands.1, stands_there S a b stands.0 stands.1 leaves stands.2);
-  content = λ key. refl;
+  content = λ key. ap (λ (c : Content). read_in c key) same;
   past = λ t key r m before. ⊎_elim (λ pair. inl record { image = pair.image; left = leaves.images.past t pair.image (omega (arith, before)) pair.left; reads = pair.reads; marked = pair.marked })
       (λ here. absurd (omega (arith, here.1, before, leaves.images.later)));
   since = λ t key r m after before. ⊎_elim
       (λ pair. let d = entry t pair.image after before pair.left in inl record { image = d.0; left = d.1; reads = reading_back d.0 pair.image key r d.2 pair.reads; marked = mark_back d.0 pair.image m d.2 pair.marked })
-      (λ here. inr (here.0, refl, here.2, here.3));
+      (λ here. inr (here.0, refl, here.2 ∙ ap (λ (c : Content). read_in c key) same, here.3));
   past_whole = λ t c m before. ⊎_elim (λ pair. inl record { image = pair.image; left = leaves.images.past t pair.image (omega (arith, before)) pair.left; reads = pair.reads; marked = pair.marked })
       (λ here. absurd (omega (arith, here.1, before, leaves.images.later)));
   since_whole = λ t c m after before. ⊎_elim
       (λ pair. let d = entry t pair.image after before pair.left in inl record { image = d.0; left = d.1; reads = λ key. reading_back d.0 pair.image key (read_in c key) d.2 (pair.reads key); marked = mark_back d.0 pair.image m d.2 pair.marked })
-      (λ here. inr (here.0, refl, here.2, here.3));
+      (λ here. inr (here.0, refl, λ key. here.2 key ∙ ap (λ (c : Content). read_in c key) same, here.3));
   opened = λ t before opens image left. opens image (leaves.images.past t image (omega (arith, before)) left);
   opens = λ t after before opens image left n bytes there. let d = entry t image after before left in opens d.0 d.1 n bytes (sym (d.2 (log_name n) refl) ∙ there);
   sound = λ is. is;
@@ -152,6 +160,9 @@ log_carries S a b leaves = record {
   steps = λ kind turned x y. (λ z. z, λ z. z);
 }
   where
+    same : content_of S b.files ≡ content_of S a.files
+    same = same_content S a b leaves
+
     entry : (t : ℕ) (c : Image) → a.turn ≤ t → t ≤ b.turn → b.left t c → (d : Image) × a.left a.turn d × SameWhere owns_file true d c
     entry t c after before left =
         ⊎_elim

@@ -1,5 +1,6 @@
-pub mod Opening
 pub mod Store
 pub mod Laws
 pub mod Rule
 pub mod Index
+pub mod Walking
+pub mod Opening

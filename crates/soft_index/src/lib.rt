@@ -1,14 +1,13 @@
-//! The store over the data files of a directory, with its entries in memory.
+//! The store over the data files of a directory. Its values are on the disk alone, and an index finds them.
 #![tactic(auto)]
 
-mod data_files;
 mod log_store;
-mod newest;
 mod opening;
-mod scanning;
+mod reading;
 mod soft_index;
-mod spelling;
 mod store;
+mod walking;
+mod writing;
 
 pub use soft_index::SoftIndex;
 

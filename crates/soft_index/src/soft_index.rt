@@ -10,7 +10,7 @@ ghost use Rattle.store_trait.specs.Meaning.{IsChange};
 ghost use Rattle.cache_model.specs.Items.{Item};
 ghost use Rattle.cache_model.specs.DataFiles.{Frame};
 ghost use Rattle.soft_index.specs.Index.{IsRead, IsRule, IsStarted, index_facts, index_means, log_of, rule_of};
-ghost use Rattle.soft_index.specs.Opening.{IsFirstDamageOf};
+ghost use Rattle.soft_index.specs.Store.{IsFirstDamageOf};
 ghost use Rattle.soft_index.specs.Rule.{Allows, IsRuled, Keeps, holds_ruled};
 ghost use Rattle.cache_model.specs.declared.entries.Answer.TheVariants.{Gone};
 ghost use Rattle.soft_index.specs.Store.{AreInRange, IsSpentBy, IsWritten, LogStands, log_facts, log_means, spent_by};

@@ -1,24 +1,29 @@
-// A store over the data files of a directory, with its content in memory.
-ghost use Rattle.std.specs.Prelude.{◌≡◌, ◌+◌, [], ℕ, List, false, if◌then◌else◌, IsTrue, IfOk, OnOk, IsErrOf};
+// A store over the data files of a directory, with an index of its records.
+ghost use Rattle.std.specs.Prelude.{◌≡◌, ◌+◌, ◌<◌, [], ℕ, List, length, false, if◌then◌else◌, IsTrue, IfOk, OnErr, OnOk, IsErrOf};
 ghost use Rattle.cache_model.specs.declared.faults.StoreFault.TheVariants as fault;
 ghost use Rattle.cache_model.specs.declared.faults.Spent.{Spent};
-ghost use Rattle.cache_model.specs.declared.commands.StepKind.TheVariants.{Rotate};
+ghost use Rattle.cache_model.specs.declared.commands.StepKind.TheVariants.{Index, Rotate};
 ghost use Rattle.cache_model.specs.Items.{Item};
 ghost use Rattle.cache_model.specs.DataFiles.{Frame};
 ghost use Rattle.cache_model.specs.Images.{log_name};
 ghost use Rattle.cache_disk.specs.State.{SameBut};
+ghost use Rattle.cache_disk.specs.State.{Stands as IsSame};
+ghost use Rattle.append_log.specs.Current as append;
 ghost use Rattle.cache_disk.specs.Calls.{HasStoreCause};
-ghost use Rattle.store_trait.specs.Meaning.{changed, entry_of, read_in, IsChange};
-ghost use Rattle.store_trait.specs.Keeping.{Keeps, SameContent};
-ghost use Rattle.store_trait.specs.Calls.{Acts, IsAnswer, IsReady, Plainly, DrawsOne, DrawsNone, Written, SyncedStore, Stepped};
-ghost use Rattle.soft_index.specs.Store.{IsCurrent, IsPutIn, IsSpentBy, IsWritten, LogStands, Rotates, closed_frames, closes, content_of, log_facts, log_means, number, spent_by, waiting};
+ghost use Rattle.compactor.specs.Stepping.{Pops};
+ghost use Rattle.store_trait.specs.Meaning.{Content, IsChange};
+ghost use Rattle.store_trait.specs.Keeping.{SameContent};
+ghost use Rattle.store_trait.specs.Calls.{Acts, IsReady, Plainly, DrawsOne, DrawsNone, Written, SyncedStore, Stepped};
+ghost use Rattle.soft_index.specs.Store.{IsSpentBy, IsWritten, LogStands, MakesRoom, Rotates, closed_frames, content_of, log_facts, log_means, number, spent_by, waiting};
 ghost use Rattle.soft_index.specs.Laws.{log_holds, log_carries};
 
 use crate::log_store::LogStore;
-use crate::spelling::{held, key_of};
+use crate::reading::answer_by;
+use crate::walking::next_shown;
+use crate::writing::put;
 use cache_disk::Host;
-use cache_model::{Answer, Change, Entry, Key, ModelFault, StepKind, StoreFault, Turned};
-use store_trait::{Keyed, ReadStore, Store, answer_of};
+use cache_model::{Answer, Change, Key, StepKind, StoreFault, Turned};
+use store_trait::{Keyed, ReadStore, Store};
 
 impl Keyed for LogStore {
     ghost facts = { log_facts };
@@ -26,11 +31,11 @@ impl Keyed for LogStore {
     ghost means = { log_means };
 
     fn hash_bits(&self) -> u32 {
-        self.entries.hash_bits()
+        self.parts.tree.hash_bits()
     }
 
     fn is_spoilt(&self) -> bool {
-        self.spoilt
+        self.parts.spoilt
     }
 }
 
@@ -41,35 +46,25 @@ impl LogStore {
     {
         self.latest
     }
-
-    // What the store answers of a key.
-    fn answer(&self, key: &Key, moment: u64) -> Result<Answer, ModelFault>
-        ensures answer { IfOk result (λ answer. IsAnswer ⊥ moment (read_in (content_of self.now) key.now) answer) }
-    {
-        answer_of(self.entries.get(key)?, moment)
-    }
 }
 
 impl<H: Host> ReadStore<H> for LogStore {
-    fn load(&mut self, _host: &mut H, key: &Key, moment: u64) -> Result<Answer, StoreFault> {
+    fn load(&mut self, host: &mut H, key: &Key, moment: u64) -> Result<Answer, StoreFault> {
         self.latest = moment;
-        match self.answer(key, moment) {
-            Ok(answer) => Ok(answer),
-            Err(_) => Err(StoreFault::Memory),
+        match self.parts.record_of(host, key) {
+            Ok(found) => Ok(answer_by(found, moment)),
+            Err(fault) => Err(fault),
         }
     }
 
     fn next_key(
         &mut self,
-        _host: &mut H,
+        host: &mut H,
         after: Option<&Key>,
         moment: u64,
     ) -> Result<Option<Key>, StoreFault> {
         self.latest = moment;
-        match self.entries.next(after, moment) {
-            Ok(key) => Ok(key),
-            Err(_) => Err(StoreFault::Memory),
-        }
+        next_shown(&mut self.parts, host, after, moment)
     }
 
     ghost holds_now = { λ store host told sound stands. log_holds store (H.state host) stands.0 stands.1 sound stands.2 };
@@ -91,21 +86,15 @@ impl<H: Host> Store<H> for LogStore {
         ensures wrote { IsTrue H.tells → (frames : List Frame) (records : List Item) → LogStands self.old (H.state host.old) frames records
             → OnOk result (IsWritten change.now moment frames records self.old self.new (H.state host.new)) }
     {
-        let Ok(held) = held(change) else {
+        if let Some(spent) = self.parts.log.spent_by(change) {
             self.latest = moment;
-            return Err(StoreFault::Memory);
-        };
-        if let Err(fault) = put(self, host, change, held, moment) {
+            self.parts.spoilt = true;
+            return Err(StoreFault::Spent(spent));
+        }
+        if let Err(fault) = make_room(self, host, moment) {
             return Err(fault);
         }
-        if !self.sync_writes {
-            return Ok(());
-        }
-        if let Err(fault) = seal(self, host, moment) {
-            self.spoilt = true;
-            return Err(fault);
-        }
-        Ok(())
+        enter(self, host, change, moment)
     }
 
     fn sync(&mut self, host: &mut H, moment: u64) -> Result<(), StoreFault> {
@@ -116,9 +105,96 @@ impl<H: Host> Store<H> for LogStore {
         if let StepKind::Rotate = kind {
             return rotate(self, host, moment);
         }
+        if let StepKind::Index = kind {
+            return index(self, host, moment);
+        }
         self.latest = moment;
         Ok(Turned::Idle)
     }
+}
+
+// Applies the oldest request to the index.
+fn index<H: Host>(store: &mut LogStore, host: &mut H, moment: u64) -> Result<Turned, StoreFault>
+    requires ready { IsReady (log_facts store.old) moment }
+    requires stands { IsTrue H.tells → (log_means store.old (H.state host.old)).stands }
+    ensures plain { Plainly (log_facts store.old) (log_facts store.new) moment result }
+    ensures draws { DrawsNone (log_facts store.old) (log_facts store.new) }
+    ensures log { store.new.parts.spoilt ≡ false → append.files_of store.new.parts.log ≡ append.files_of store.old.parts.log }
+    ensures limit { store.new.parts.requests.limit ≡ store.old.parts.requests.limit }
+    ensures popped { IfOk result (λ turned. Pops turned store.old.parts.requests.waiting store.new.parts.requests.waiting) }
+    ensures waits { OnErr result (store.new.parts.spoilt ≡ false → store.new.parts.requests.waiting ≡ store.old.parts.requests.waiting) }
+    ensures unspent { (s : Spent) → IsErrOf result (fault.Spent s) → ⊥ }
+    ensures still { IsTrue H.tells → IsSame (H.state host.old) (H.state host.new) }
+    ensures kept { IsTrue H.tells → store.new.parts.spoilt ≡ false → (frames : List Frame) (records : List Item) → LogStands store.old (H.state host.old) frames records → LogStands store.new (H.state host.new) frames records }
+    ensures acts { IsTrue H.tells → (wanted : Content) → Acts (log_facts store.old) (log_facts store.new)
+        (log_means store.old (H.state host.old)) (log_means store.new (H.state host.new)) (H.state host.old) (H.state host.new) moment wanted result }
+    ensures told { IsTrue H.tells → Stepped Index (log_facts store.old) (log_facts store.new)
+        (log_means store.old (H.state host.old)) (log_means store.new (H.state host.new)) (H.state host.old) (H.state host.new) moment result }
+    ensures cause { HasStoreCause (H.state host.old) (H.state host.new) result }
+{
+    store.latest = moment;
+    store.parts.index_step(host)
+}
+
+// Sees to it that the queue has room for one request more: where it is full, the oldest is applied to the index.
+fn make_room<H: Host>(store: &mut LogStore, host: &mut H, moment: u64) -> Result<(), StoreFault>
+    requires ready { IsReady (log_facts store.old) moment }
+    requires stands { IsTrue H.tells → (log_means store.old (H.state host.old)).stands }
+    ensures plain { Plainly (log_facts store.old) (log_facts store.new) moment result }
+    ensures draws { DrawsNone (log_facts store.old) (log_facts store.new) }
+    ensures log { store.new.parts.spoilt ≡ false → append.files_of store.new.parts.log ≡ append.files_of store.old.parts.log }
+    ensures limit { store.new.parts.requests.limit ≡ store.old.parts.requests.limit }
+    ensures room { OnOk result (length store.new.parts.requests.waiting < store.new.parts.requests.limit) }
+    ensures rows { store.new.parts.spoilt ≡ false → MakesRoom store.old.parts.requests.limit (log_facts store.old).parts (log_facts store.new).parts }
+    ensures unspent { (s : Spent) → IsErrOf result (fault.Spent s) → ⊥ }
+    ensures still { IsTrue H.tells → IsSame (H.state host.old) (H.state host.new) }
+    ensures kept { IsTrue H.tells → store.new.parts.spoilt ≡ false → (frames : List Frame) (records : List Item) → LogStands store.old (H.state host.old) frames records → LogStands store.new (H.state host.new) frames records }
+    ensures content { IsTrue H.tells → store.new.parts.spoilt ≡ false → SameContent (content_of store.old (H.state host.old).files) (content_of store.new (H.state host.new).files) }
+    ensures told { IsTrue H.tells → (wanted : Content) → Acts (log_facts store.old) (log_facts store.new)
+        (log_means store.old (H.state host.old)) (log_means store.new (H.state host.new)) (H.state host.old) (H.state host.new) moment wanted result }
+    ensures cause { HasStoreCause (H.state host.old) (H.state host.new) result }
+{
+    if !store.parts.requests.is_full() {
+        store.latest = moment;
+        return Ok(());
+    }
+    match index(store, host, moment) {
+        Ok(_) => Ok(()),
+        Err(fault) => Err(fault),
+    }
+}
+
+// Writes a change for which the queue has room, and syncs it, where changes are synced at once.
+fn enter<H: Host>(
+    store: &mut LogStore,
+    host: &mut H,
+    change: &Change,
+    moment: u64,
+) -> Result<(), StoreFault>
+    requires ready { IsReady (log_facts store.old) moment }
+    requires room { length store.old.parts.requests.waiting < store.old.parts.requests.limit }
+    requires stands { IsTrue H.tells → (log_means store.old (H.state host.old)).stands }
+    requires change { IsChange change.now }
+    ensures plain { Plainly (log_facts store.old) (log_facts store.new) moment result }
+    ensures draws { DrawsOne (log_facts store.old) (log_facts store.new) result }
+    ensures told { IsTrue H.tells → Written change.now (log_facts store.old) (log_facts store.new)
+        (log_means store.old (H.state host.old)) (log_means store.new (H.state host.new)) (H.state host.old) (H.state host.new) moment result }
+    ensures cause { HasStoreCause (H.state host.old) (H.state host.new) result }
+    ensures spent { IsSpentBy (spent_by store.old change.now) result }
+    ensures wrote { IsTrue H.tells → (frames : List Frame) (records : List Item) → LogStands store.old (H.state host.old) frames records
+        → OnOk result (IsWritten change.now moment frames records store.old store.new (H.state host.new)) }
+{
+    if let Err(fault) = put(store, host, change, moment) {
+        return Err(fault);
+    }
+    if !store.sync_writes {
+        return Ok(());
+    }
+    if let Err(fault) = seal(store, host, moment) {
+        store.parts.spoilt = true;
+        return Err(fault);
+    }
+    Ok(())
 }
 
 // Seals what was written.
@@ -127,7 +203,7 @@ fn seal<H: Host>(store: &mut LogStore, host: &mut H, moment: u64) -> Result<(), 
     requires stands { IsTrue H.tells → (log_means store.old (H.state host.old)).stands }
     ensures plain { Plainly (log_facts store.old) (log_facts store.new) moment result }
     ensures draws { DrawsNone (log_facts store.old) (log_facts store.new) }
-    ensures entries { store.new.entries ≡ store.old.entries }
+    ensures parts { (store.new.parts.table ≡ store.old.parts.table) × (store.new.parts.tree ≡ store.old.parts.tree) × (store.new.parts.requests ≡ store.old.parts.requests) }
     ensures number { OnOk result (number store.new ≡ number store.old) }
     ensures unspent { (s : Spent) → IsErrOf result (fault.Spent s) → ⊥ }
     ensures wrote { IsTrue H.tells → (frames : List Frame) (records : List Item) → LogStands store.old (H.state host.old) frames records
@@ -138,8 +214,8 @@ fn seal<H: Host>(store: &mut LogStore, host: &mut H, moment: u64) -> Result<(), 
     ensures cause { HasStoreCause (H.state host.old) (H.state host.new) result }
 {
     store.latest = moment;
-    if let Err(fault) = store.log.seal(host, moment) {
-        store.spoilt = store.log.is_spoilt();
+    if let Err(fault) = store.parts.log.seal(host, moment) {
+        store.parts.spoilt = store.parts.log.is_spoilt();
         return Err(fault);
     }
     Ok(())
@@ -157,54 +233,10 @@ fn rotate<H: Host>(store: &mut LogStore, host: &mut H, moment: u64) -> Result<Tu
     ensures cause { HasStoreCause (H.state host.old) (H.state host.new) result }
 {
     store.latest = moment;
-    match store.log.rotate(host, moment) {
+    match store.parts.log.rotate(host, moment) {
         Ok(turned) => Ok(turned),
         Err(fault) => {
-            store.spoilt = store.log.is_spoilt();
-            Err(fault)
-        }
-    }
-}
-
-// Numbers a change, writes its record and holds it. It isn't synced yet.
-fn put<H: Host>(
-    store: &mut LogStore,
-    host: &mut H,
-    change: &Change,
-    held: Option<Entry>,
-    moment: u64,
-) -> Result<(), StoreFault>
-    requires ready { IsReady (log_facts store.old) moment }
-    requires stands { IsTrue H.tells → (log_means store.old (H.state host.old)).stands }
-    requires change { IsChange change.now }
-    requires held { held ≡ entry_of change.now }
-    ensures plain { Plainly (log_facts store.old) (log_facts store.new) moment result }
-    ensures draws { DrawsOne (log_facts store.old) (log_facts store.new) result }
-    ensures spent { IsSpentBy (spent_by store.old change.now) result }
-    ensures number { OnOk result (number store.new ≡ (if closes store.old change.now then number store.old + 1 else number store.old)) }
-    ensures current { OnOk result (IsCurrent (log_facts store.new).parts) }
-    ensures wrote { IsTrue H.tells → (frames : List Frame) (records : List Item) → LogStands store.old (H.state host.old) frames records
-        → OnOk result (IsPutIn change.now moment frames records store.old store.new (H.state host.new)) }
-    ensures told { IsTrue H.tells → Acts (log_facts store.old) (log_facts store.new)
-        (log_means store.old (H.state host.old)) (log_means store.new (H.state host.new)) (H.state host.old) (H.state host.new) moment (changed change.now (content_of store.old)) result }
-    ensures content { OnOk result (SameContent (changed change.now (content_of store.old)) (content_of store.new)) }
-    ensures unchanged { IsErrOf result fault.Memory → store.new.spoilt ≡ false → SameContent (content_of store.old) (content_of store.new) }
-    ensures kept { IsTrue H.tells → IsErrOf result fault.Memory → store.new.spoilt ≡ false
-        → Keeps (log_facts store.old) (H.state host.old).turn (H.state host.new).turn moment (log_means store.old (H.state host.old)) (log_means store.new (H.state host.new)) (content_of store.old) }
-    ensures cause { HasStoreCause (H.state host.old) (H.state host.new) result }
-{
-    store.latest = moment;
-    let Ok(seat) = store.entries.seat(key_of(change)) else {
-        return Err(StoreFault::Memory);
-    };
-    match store.log.put_change(host, change, moment) {
-        Ok(_) => {
-            store.entries.fill(seat, held);
-            Ok(())
-        }
-        Err(fault) => {
-            store.entries.unseat(seat);
-            store.spoilt = store.log.is_spoilt();
+            store.parts.spoilt = store.parts.log.is_spoilt();
             Err(fault)
         }
     }

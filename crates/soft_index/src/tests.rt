@@ -8,7 +8,10 @@ ghost use Rattle.host_memory.specs.History.{memory_state};
 ghost use Rattle.soft_index.specs.Index.{IsRule, index_facts, index_means};
 ghost use Rattle.soft_index.specs.Store.{AreInRange};
 
+mod failing;
+
 use crate::SoftIndex;
+use crate::tests::failing::failures_spoil;
 use cache_disk::Host;
 use cache_model::{
     Activation, Answer, Change, Entry, Key, Mode, Prefix, Settings, StepKind, StoreFault, Turned,
@@ -30,6 +33,15 @@ type Session = (u32, [Row; 4]);
 struct Table {
     keys: [&'static str; 3],
     sessions: [Session; 3],
+}
+
+/// How a store is run: its settings, and how many index steps follow each change.
+#[derive(Drop)]
+struct Way {
+    hash_bits: u32,
+    queue: usize,
+    sync_writes: bool,
+    steps: usize,
 }
 
 /// The moment of the last session.
@@ -103,16 +115,70 @@ const SHORT: Table = Table {
     ],
 };
 
-fn settings_of(alloc: Global, sync_writes: bool) -> Result<Settings, Fail>
+/// Keys of which a bit or two of hash tells none apart, the middle one of which is removed again and again.
+const MIDDLE: Table = Table {
+    keys: ["a", "b", "bb"],
+    sessions: [
+        (
+            1000,
+            [
+                ("a", Some(("1", 1, None))),
+                ("b", Some(("2", 2, None))),
+                ("bb", Some(("3", 3, None))),
+                ("b", None),
+            ],
+        ),
+        (
+            2000,
+            [
+                ("b", Some(("4", 4, None))),
+                ("a", Some(("5", 5, None))),
+                ("b", None),
+                ("bb", Some(("6", 6, Some(3000)))),
+            ],
+        ),
+        (
+            3000,
+            [
+                ("a", Some(("7", 7, None))),
+                ("bb", None),
+                ("b", Some(("8", 8, None))),
+                ("bb", Some(("9", 9, None))),
+            ],
+        ),
+    ],
+};
+
+/// Ways of which a change finds the queue full, or leaves room in it, or is in the index before the next one.
+const WAYS: [(u32, usize, bool, usize); 6] = [
+    (0, 1, true, 0),
+    (0, 2, false, 1),
+    (3, 2, true, 0),
+    (3, 16, false, 2),
+    (32, 1, true, 1),
+    (32, 16, false, 0),
+];
+
+fn way_of(row: (u32, usize, bool, usize)) -> Way {
+    Way {
+        hash_bits: row.0,
+        queue: row.1,
+        sync_writes: row.2,
+        steps: row.3,
+    }
+}
+
+fn settings_of(rt: &impl Abort, alloc: Global, way: &Way) -> Result<Settings, Fail>
     ensures { IfOk result AreInRange }
 {
+    assert!(rt; way.hash_bits <= 32 && 1 <= way.queue && way.queue <= 65536);
     Ok(Settings {
         file_size: 4096,
         compact_below: 50,
-        queue: 16,
+        queue: way.queue,
         nodes: 8,
-        hash_bits: 32,
-        sync_writes,
+        hash_bits: way.hash_bits,
+        sync_writes: way.sync_writes,
         mode: Mode::Through,
         behind_limit: 1,
         max_entries: 1,
@@ -144,7 +210,7 @@ fn change_of(alloc: Global, row: &Row) -> Result<Change, Fail>
     Ok(Change::Put(key, Entry { value, until }))
 }
 
-/// Writes a change.
+/// Writes a change, once more where it was refused for memory.
 fn write<H: Host, S: Store<H>>(
     store: &mut S,
     host: &mut H,
@@ -157,7 +223,53 @@ fn write<H: Host, S: Store<H>>(
     ensures ready { OnOk result (IsReady (S.facts store.new) moment) }
     ensures stands { OnOk result (IsTrue H.tells → (S.means store.new (H.state host.new)).stands) }
 {
-    store.write(host, change, moment)
+    match store.write(host, change, moment) {
+        Ok(()) => Ok(()),
+        Err(fault) => {
+            if store.is_spoilt() {
+                return Err(fault);
+            }
+            store.write(host, change, moment)
+        }
+    }
+}
+
+/// Takes a step.
+fn step<H: Host, S: Store<H>>(
+    store: &mut S,
+    host: &mut H,
+    moment: u64,
+    kind: StepKind,
+) -> Result<Turned, StoreFault>
+    requires ready { IsReady (S.facts store.old) moment }
+    requires stands { IsTrue H.tells → (S.means store.old (H.state host.old)).stands }
+    ensures ready { OnOk result (IsReady (S.facts store.new) moment) }
+    ensures stands { OnOk result (IsTrue H.tells → (S.means store.new (H.state host.new)).stands) }
+{
+    store.step(host, moment, kind)
+}
+
+/// A read, made once more where it was refused for memory.
+fn answer<H: Host, S: Store<H>>(
+    store: &mut S,
+    host: &mut H,
+    key: &Key,
+    moment: u64,
+) -> Result<Answer, StoreFault>
+    requires ready { IsReady (S.facts store.old) moment }
+    requires stands { IsTrue H.tells → (S.means store.old (H.state host.old)).stands }
+    ensures ready { OnOk result (IsReady (S.facts store.new) moment) }
+    ensures stands { OnOk result (IsTrue H.tells → (S.means store.new (H.state host.new)).stands) }
+{
+    match store.load(host, key, moment) {
+        Ok(answer) => Ok(answer),
+        Err(fault) => {
+            if store.is_spoilt() {
+                return Err(fault);
+            }
+            store.load(host, key, moment)
+        }
+    }
 }
 
 /// What a store has of a key, as text.
@@ -174,7 +286,7 @@ fn load<H: Host, S: Store<H>>(
     ensures stands { OnOk result (IsTrue H.tells → (S.means store.new (H.state host.new)).stands) }
 {
     let key = Key::of(alloc, key.as_bytes())?;
-    match store.load(host, &key, moment)? {
+    match answer(store, host, &key, moment)? {
         Answer::Known(entry) => {
             let bytes = entry.value.bytes();
             Ok(format!(in alloc; "{} {:?} {:?}", bytes.len(), bytes.first(), entry.until)?)
@@ -189,7 +301,7 @@ fn next<H: Host, S: Store<H>>(
     alloc: Global,
     store: &mut S,
     host: &mut H,
-    after: Option<&Key>,
+    after: Option<&str>,
     moment: u64,
 ) -> Result<String, Fail>
     requires ready { IsReady (S.facts store.old) moment }
@@ -197,7 +309,11 @@ fn next<H: Host, S: Store<H>>(
     ensures ready { OnOk result (IsReady (S.facts store.new) moment) }
     ensures stands { OnOk result (IsTrue H.tells → (S.means store.new (H.state host.new)).stands) }
 {
-    match store.next_key(host, after, moment)? {
+    let after = match after {
+        Some(after) => Some(Key::of(alloc, after.as_bytes())?),
+        None => None,
+    };
+    match store.next_key(host, after.as_ref(), moment)? {
         Some(key) => Ok(format!(in alloc; "{:?}", key.bytes())?),
         None => Ok(format!(in alloc; "none")?),
     }
@@ -221,27 +337,9 @@ fn seen<H: Host, S: Store<H>>(
     let two = load(alloc, store, host, b, moment)?;
     let three = load(alloc, store, host, c, moment)?;
     let first = next(alloc, store, host, None, moment)?;
-    let second = next(
-        alloc,
-        store,
-        host,
-        Some(&Key::of(alloc, a.as_bytes())?),
-        moment,
-    )?;
-    let third = next(
-        alloc,
-        store,
-        host,
-        Some(&Key::of(alloc, b.as_bytes())?),
-        moment,
-    )?;
-    let last = next(
-        alloc,
-        store,
-        host,
-        Some(&Key::of(alloc, c.as_bytes())?),
-        moment,
-    )?;
+    let second = next(alloc, store, host, Some(a), moment)?;
+    let third = next(alloc, store, host, Some(b), moment)?;
+    let last = next(alloc, store, host, Some(c), moment)?;
     Ok(format!(in alloc; "{one}, {two}, {three}: {first} {second} {third} {last}")?)
 }
 
@@ -252,7 +350,68 @@ struct InMemory {
     host: MemoryHost,
 }
 
-/// One change, which both stores then have.
+/// The store reads as the one in memory does.
+fn reads_alike<F: Fn(&Key) -> bool + Drop>(
+    rt: &impl Abort,
+    alloc: Global,
+    store: &mut SoftIndex<F>,
+    heap: &mut InMemory,
+    host: &mut MemoryHost,
+    keys: &[&'static str; 3],
+    moment: u64,
+) -> Result<(), Fail>
+    requires ready { IsReady (index_facts F.Fn store.old) moment }
+    requires stands { (index_means store.old (memory_state host.old)).stands }
+    requires heap { IsReady (heap_facts heap.old.store) moment }
+    ensures ready { OnOk result (IsReady (index_facts F.Fn store.new) moment) }
+    ensures stands { OnOk result ((index_means store.new (memory_state host.new)).stands) }
+    ensures heap { OnOk result (IsReady (heap_facts heap.new.store) moment) }
+{
+    let had = seen(alloc, store, host, keys, moment)?;
+    let wanted = seen(alloc, &mut heap.store, &mut heap.host, keys, moment)?;
+    assert!(rt; had.as_str() == wanted.as_str(), "{had}, and not {wanted}");
+    Ok(())
+}
+
+/// An index step, which is done exactly where a request waits.
+fn index<F: Fn(&Key) -> bool + Drop>(
+    rt: &impl Abort,
+    store: &mut SoftIndex<F>,
+    host: &mut MemoryHost,
+    moment: u64,
+) -> Result<(), Fail>
+    requires ready { IsReady (index_facts F.Fn store.old) moment }
+    requires stands { (index_means store.old (memory_state host.old)).stands }
+    ensures ready { OnOk result (IsReady (index_facts F.Fn store.new) moment) }
+    ensures stands { OnOk result ((index_means store.new (memory_state host.new)).stands) }
+{
+    let waiting = store.log.parts.requests.len();
+    let turned = step(store, host, moment, StepKind::Index)?;
+    assert!(rt; (turned == Turned::Done) == (waiting != 0), "{waiting}");
+    assert!(rt; store.log.parts.requests.len() == waiting.saturating_sub(1));
+    Ok(())
+}
+
+/// So many index steps.
+fn index_often<F: Fn(&Key) -> bool + Drop>(
+    rt: &impl Abort,
+    store: &mut SoftIndex<F>,
+    host: &mut MemoryHost,
+    moment: u64,
+    steps: usize,
+) -> Result<(), Fail>
+    requires ready { IsReady (index_facts F.Fn store.old) moment }
+    requires stands { (index_means store.old (memory_state host.old)).stands }
+    ensures ready { OnOk result (IsReady (index_facts F.Fn store.new) moment) }
+    ensures stands { OnOk result ((index_means store.new (memory_state host.new)).stands) }
+{
+    for _ in 0..steps {
+        index(rt, store, host, moment)?;
+    }
+    Ok(())
+}
+
+/// One change, which both stores then have, and index steps, which change nothing of what is read.
 fn row_holds<F: Fn(&Key) -> bool + Drop>(
     rt: &impl Abort,
     alloc: Global,
@@ -262,6 +421,7 @@ fn row_holds<F: Fn(&Key) -> bool + Drop>(
     keys: &[&'static str; 3],
     row: &Row,
     moment: u64,
+    steps: usize,
 ) -> Result<(), Fail>
     requires ready { IsReady (index_facts F.Fn store.old) moment }
     requires stands { (index_means store.old (memory_state host.old)).stands }
@@ -272,14 +432,10 @@ fn row_holds<F: Fn(&Key) -> bool + Drop>(
 {
     let change = change_of(alloc, row)?;
     write(store, host, &change, moment)?;
-    let had = seen(alloc, store, host, keys, moment)?;
     write(&mut heap.store, &mut heap.host, &change, moment)?;
-    let wanted = seen(alloc, &mut heap.store, &mut heap.host, keys, moment)?;
-    assert!(rt;
-        had.as_str() == wanted.as_str(),
-        "{row:?}: {had}, and not {wanted}"
-    );
-    Ok(())
+    reads_alike(rt, alloc, store, heap, host, keys, moment)?;
+    index_often(rt, store, host, moment, steps)?;
+    reads_alike(rt, alloc, store, heap, host, keys, moment)
 }
 
 /// The store of a directory, whose mark is no later than the moment.
@@ -298,7 +454,7 @@ fn open<F: Fn(&Key) -> bool + Drop>(
     ensures stands { IfOk result (λ store. (index_means store (memory_state host.new)).stands) }
 {
     let (store, mark) = SoftIndex::start(alloc, host, 0, settings, forget)?;
-    assert!(rt; mark <= moment && !store.is_spoilt() && store.hash_bits() == 32);
+    assert!(rt; mark <= moment && !store.is_spoilt() && store.hash_bits() == settings.hash_bits);
     Ok(store)
 }
 
@@ -325,30 +481,54 @@ fn rests<H: Host, S: Store<H>>(
     }
 }
 
-/// One session, which holds the same as the store in memory.
+/// Applies what waits for the index, and then syncs and rotates.
+fn ends<F: Fn(&Key) -> bool + Drop>(
+    rt: &impl Abort,
+    store: &mut SoftIndex<F>,
+    host: &mut MemoryHost,
+    moment: u64,
+) -> Result<(), Fail>
+    requires ready { IsReady (index_facts F.Fn store.old) moment }
+    requires stands { (index_means store.old (memory_state host.old)).stands }
+{
+    index_often(rt, store, host, moment, 5)?;
+    assert!(rt; store.log.parts.requests.is_empty());
+    let turned = rests(store, host, moment)?;
+    assert!(rt; turned == (Turned::Done, Turned::Idle));
+    Ok(())
+}
+
+/// One session, which holds the same as the store in memory, from its opening on.
 fn session_holds(
     rt: &impl Abort,
     alloc: Global,
     host: &mut MemoryHost,
     heap: &mut InMemory,
-    settings: &Settings,
+    way: &Way,
     keys: &[&'static str; 3],
     session: &Session,
 ) -> Result<(), Fail>
-    requires settings { AreInRange settings.now }
     requires heap { IsReady (heap_facts heap.old.store) session.now.0 }
     ensures heap { OnOk result (IsReady (heap_facts heap.new.store) session.now.0) }
 {
     let moment = u64::from(session.0);
     let [one, two, three, four] = &session.1;
-    let mut store = open(rt, alloc, host, settings, |_| false, moment)?;
-    row_holds(rt, alloc, &mut store, heap, host, keys, one, moment)?;
-    row_holds(rt, alloc, &mut store, heap, host, keys, two, moment)?;
-    row_holds(rt, alloc, &mut store, heap, host, keys, three, moment)?;
-    row_holds(rt, alloc, &mut store, heap, host, keys, four, moment)?;
-    let turned = rests(&mut store, host, moment)?;
-    assert!(rt; turned == (Turned::Done, Turned::Idle));
-    Ok(())
+    let settings = settings_of(rt, alloc, way)?;
+    let mut store = open(rt, alloc, host, &settings, |_| false, moment)?;
+    reads_alike(rt, alloc, &mut store, heap, host, keys, moment)?;
+    row_holds(
+        rt, alloc, &mut store, heap, host, keys, one, moment, way.steps,
+    )?;
+    row_holds(
+        rt, alloc, &mut store, heap, host, keys, two, moment, way.steps,
+    )?;
+    row_holds(
+        rt, alloc, &mut store, heap, host, keys, three, moment, way.steps,
+    )?;
+    row_holds(
+        rt, alloc, &mut store, heap, host, keys, four, moment, way.steps,
+    )?;
+    ends(rt, &mut store, host, moment)
 }
 
 /// A host in memory without a file.
@@ -357,37 +537,42 @@ fn empty_host(alloc: Global) -> Result<MemoryHost, Fail> {
 }
 
 /// A store in memory without a key.
-fn empty_heap(alloc: Global) -> Result<InMemory, Fail>
+fn empty_heap(rt: &impl Abort, alloc: Global, way: &Way) -> Result<InMemory, Fail>
     ensures { IfOk result (λ heap. IsReady (heap_facts heap.store) 0) }
 {
+    assert!(rt; way.hash_bits <= 32);
     Ok(InMemory {
-        store: HeapStore::new(alloc, 32)?,
+        store: HeapStore::new(alloc, way.hash_bits)?,
         host: empty_host(alloc)?,
     })
 }
 
+/// The sessions of a table, of which each opens what the one before left.
 fn sessions_hold(
     rt: &impl Abort,
     alloc: Global,
     table: &Table,
-    sync_writes: bool,
-) -> Result<(), Fail> {
+    way: &Way,
+) -> Result<MemoryHost, Fail> {
     let mut host = empty_host(alloc)?;
-    let mut heap = empty_heap(alloc)?;
-    let settings = settings_of(alloc, sync_writes)?;
+    let mut heap = empty_heap(rt, alloc, way)?;
     let keys = &table.keys;
     let [one, two, three] = &table.sessions;
     assert!(rt; one.0 <= two.0 && two.0 <= three.0);
-    session_holds(rt, alloc, &mut host, &mut heap, &settings, keys, one)?;
-    session_holds(rt, alloc, &mut host, &mut heap, &settings, keys, two)?;
-    session_holds(rt, alloc, &mut host, &mut heap, &settings, keys, three)
+    session_holds(rt, alloc, &mut host, &mut heap, way, keys, one)?;
+    session_holds(rt, alloc, &mut host, &mut heap, way, keys, two)?;
+    session_holds(rt, alloc, &mut host, &mut heap, way, keys, three)?;
+    Ok(host)
 }
 
 #[test]
 fn sessions_hold_the_same_as_a_store_in_memory(rt: HostRuntime) -> Result<(), Fail> {
-    for table in [&LONG, &SHORT] {
-        sessions_hold(&rt, rt.alloc(), table, true)?;
-        sessions_hold(&rt, rt.alloc(), table, false)?;
+    for row in WAYS {
+        let way = way_of(row);
+        sessions_hold(&rt, rt.alloc(), &LONG, &way)?;
+        sessions_hold(&rt, rt.alloc(), &SHORT, &way)?;
+        let left = sessions_hold(&rt, rt.alloc(), &MIDDLE, &way)?;
+        failures_spoil(&rt, rt.alloc(), &left, &way)?;
     }
     Ok(())
 }
@@ -440,14 +625,15 @@ fn note(
     Ok(())
 }
 
-/// One change more in the past. Where changes are synced at once, its answer is a promise.
+/// One change more in the past, and index steps behind it. Where changes are synced at once, its answer is a promise.
 fn row_passes<F: Fn(&Key) -> bool + Drop>(
+    rt: &impl Abort,
     alloc: Global,
     store: &mut SoftIndex<F>,
     host: &mut MemoryHost,
     heap: &mut InMemory,
     past: &mut Past,
-    settings: &Settings,
+    way: &Way,
     keys: &[&'static str; 3],
     row: &Row,
     moment: u64,
@@ -462,10 +648,10 @@ fn row_passes<F: Fn(&Key) -> bool + Drop>(
     let change = change_of(alloc, row)?;
     write(store, host, &change, moment)?;
     note(alloc, heap, past, keys, &change, host.turns())?;
-    if settings.sync_writes {
+    if way.sync_writes {
         past.promises.push((host.turns(), past.turns.len()))?;
     }
-    Ok(())
+    index_often(rt, store, host, moment, way.steps)
 }
 
 /// One session, whose changes are promised at its end.
@@ -475,31 +661,30 @@ fn session_passes(
     host: &mut MemoryHost,
     heap: &mut InMemory,
     past: &mut Past,
-    settings: &Settings,
+    way: &Way,
     keys: &[&'static str; 3],
     session: &Session,
 ) -> Result<(), Fail>
-    requires settings { AreInRange settings.now }
     requires heap { IsReady (heap_facts heap.old.store) 3000 }
     ensures heap { OnOk result (IsReady (heap_facts heap.new.store) 3000) }
 {
     let moment = u64::from(session.0);
     let [one, two, three, four] = &session.1;
-    let mut store = open(rt, alloc, host, settings, |_| false, moment)?;
+    let settings = settings_of(rt, alloc, way)?;
+    let mut store = open(rt, alloc, host, &settings, |_| false, moment)?;
     row_passes(
-        alloc, &mut store, host, heap, past, settings, keys, one, moment,
+        rt, alloc, &mut store, host, heap, past, way, keys, one, moment,
     )?;
     row_passes(
-        alloc, &mut store, host, heap, past, settings, keys, two, moment,
+        rt, alloc, &mut store, host, heap, past, way, keys, two, moment,
     )?;
     row_passes(
-        alloc, &mut store, host, heap, past, settings, keys, three, moment,
+        rt, alloc, &mut store, host, heap, past, way, keys, three, moment,
     )?;
     row_passes(
-        alloc, &mut store, host, heap, past, settings, keys, four, moment,
+        rt, alloc, &mut store, host, heap, past, way, keys, four, moment,
     )?;
-    let turned = rests(&mut store, host, moment)?;
-    assert!(rt; turned == (Turned::Done, Turned::Idle));
+    ends(rt, &mut store, host, moment)?;
     past.promises.push((host.turns(), past.turns.len()))?;
     Ok(())
 }
@@ -547,15 +732,10 @@ fn crash_holds(
     Ok(())
 }
 
-fn crashes_hold(
-    rt: &impl Abort,
-    alloc: Global,
-    table: &Table,
-    sync_writes: bool,
-) -> Result<(), Fail> {
+fn crashes_hold(rt: &impl Abort, alloc: Global, table: &Table, way: &Way) -> Result<(), Fail> {
     let mut host = empty_host(alloc)?;
-    let mut heap = empty_heap(alloc)?;
-    let settings = settings_of(alloc, sync_writes)?;
+    let mut heap = empty_heap(rt, alloc, way)?;
+    let settings = settings_of(rt, alloc, way)?;
     let mut past = Past {
         turns: Vec::new(alloc),
         texts: Vec::new(alloc),
@@ -563,15 +743,9 @@ fn crashes_hold(
     };
     let keys = &table.keys;
     let [one, two, three] = &table.sessions;
-    session_passes(
-        rt, alloc, &mut host, &mut heap, &mut past, &settings, keys, one,
-    )?;
-    session_passes(
-        rt, alloc, &mut host, &mut heap, &mut past, &settings, keys, two,
-    )?;
-    session_passes(
-        rt, alloc, &mut host, &mut heap, &mut past, &settings, keys, three,
-    )?;
+    session_passes(rt, alloc, &mut host, &mut heap, &mut past, way, keys, one)?;
+    session_passes(rt, alloc, &mut host, &mut heap, &mut past, way, keys, two)?;
+    session_passes(rt, alloc, &mut host, &mut heap, &mut past, way, keys, three)?;
     for turn in 0..=host.turns() {
         for choice in 0..8 {
             crash_holds(rt, alloc, &host, &past, &settings, keys, turn, choice)?;
@@ -582,9 +756,14 @@ fn crashes_hold(
 
 #[test]
 fn crashes_leave_changes_that_were_begun(rt: HostRuntime) -> Result<(), Fail> {
-    for table in [&LONG, &SHORT] {
-        crashes_hold(&rt, rt.alloc(), table, true)?;
-        crashes_hold(&rt, rt.alloc(), table, false)?;
+    for (table, row) in [
+        (&LONG, (32, 16, true, 0)),
+        (&LONG, (3, 2, false, 1)),
+        (&SHORT, (0, 1, true, 1)),
+        (&SHORT, (32, 2, false, 0)),
+        (&MIDDLE, (0, 2, false, 0)),
+    ] {
+        crashes_hold(&rt, rt.alloc(), table, &way_of(row))?;
     }
     Ok(())
 }

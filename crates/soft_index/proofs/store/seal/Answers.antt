@@ -1,13 +1,13 @@
-use Rattle.std.proofs.Common.{◌≡◌, ◌∙◌, ℕ, Bool, List, [], Err, Ok, refl, sym, ap, subst, arith, false}
-use Rattle.cache_model.specs.Items.{Item}
-use Rattle.cache_model.specs.DataFiles.{Frame}
+use Rattle.std.proofs.Common.{◌≡◌, ◌∙◌, [], Err, Ok, refl, sym, false}
 use Rattle.data_file.specs.Appending.{CountsOneOf}
 use Rattle.append_log.specs.Standing.{Held, sealed_held}
+use Rattle.cache_model.specs.Images.{log_name}
+use Rattle.store_trait.specs.Keeping.{SameContent}
 use Rattle.soft_index.specs.declared.log_store.LogStore.{LogStore}
-use Rattle.soft_index.specs.Store.{closed_frames, number, waiting}
+use Rattle.soft_index.specs.Store.{closed_frames, content_of, waiting}
 use Rattle.soft_index.proofs.Images.{settled_now}
-use Rattle.soft_index.proofs.Changes.{as_was, draws_none, flushed_row, same_parts, still_stands}
-use Rattle.soft_index.proofs.Standing.{stands_sealed}
+use Rattle.soft_index.proofs.Changes.{as_was, draws_none, flushed_row, same_rows, still_stands}
+use Rattle.soft_index.proofs.Standing.{content_same, sealed_records, stands_sealed}
 use Rattle.soft_index.proofs.Turning.{from_main, named_main, sealed_parts, sealing_acts, seals_main, to_main}
 use Rattle.soft_index.proofs.store.seal.Goals as goal
 
@@ -15,27 +15,27 @@ pub seal-requires-clause-stands : goal.seal-requires-clause-stands
 seal-requires-clause-stands g c told =
     let stands = c.requires.stands told in
     let held : Held = record { closed = stands.2.log.0; frames = stands.0; records = stands.1 } in
-    (held, from_main c.args.store.now.log.files (g.H.Host.state c.args.host.now) held c.requires.ready.usable.main stands.2.log.1)
+    (held, from_main c.args.store.now.parts.log.files (g.H.Host.state c.args.host.now) held c.requires.ready.usable.main stands.2.log.1)
 
 pub returns-in-Err-clause-draws : goal.returns-in-Err-clause-draws
 returns-in-Err-clause-draws g c =
     let old = c.args.store.now in
-    let new : LogStore = record old { log = c.seal.new.self; latest = c.args.moment; spoilt = c.is_spoilt-store.result } in
+    let new : LogStore = record old { parts = record old.parts { log = c.seal.new.self; spoilt = c.is_spoilt-store.result }; latest = c.args.moment } in
     let takes = c.seal.ensures.takes in
     draws_none old new takes.0 takes.1 takes.2
 
 pub returns-clause-draws : goal.returns-clause-draws
 returns-clause-draws g c =
     let old = c.args.store.now in
-    let new : LogStore = record old { log = c.seal.new.self; latest = c.args.moment } in
+    let new : LogStore = record old { parts = record old.parts { log = c.seal.new.self }; latest = c.args.moment } in
     let takes = c.seal.ensures.takes in
     draws_none old new takes.0 takes.1 takes.2
 
 pub returns-in-Err-clause-told : goal.returns-in-Err-clause-told
 returns-in-Err-clause-told g c told =
     let old = c.args.store.now in
-    let new : LogStore = record old { log = c.seal.new.self; latest = c.args.moment; spoilt = c.is_spoilt-store.result } in
-    let F = old.log.files in
+    let new : LogStore = record old { parts = record old.parts { log = c.seal.new.self; spoilt = c.is_spoilt-store.result }; latest = c.args.moment } in
+    let F = old.parts.log.files in
     let G = c.seal.new.self.files in
     let a = g.H.Host.state c.args.host.now in
     let b = g.H.Host.state c.seal.new.host in
@@ -44,14 +44,14 @@ returns-in-Err-clause-told g c told =
     let held : Held = record { closed = stands.2.log.0; frames = stands.0; records = stands.1 } in
     let after = λ (answer : Unit {0}). sealed_held F.unsealed c.args.moment held in
     let seals = seals_main {R = Unit {0}} F G a b c.args.moment held after (Err c.in-Err.fault) main (c.in-Err.ensures.told told held (from_main F a held main stands.2.log.1)) in
-    let kept = λ (unspoilt : c.is_spoilt-store.result ≡ false). as_was old new (c.in-Err.ensures.goes.refused (sym c.is_spoilt-store.ensures ∙ unspoilt)).1 (λ key. refl) in
+    let kept = λ (unspoilt : c.is_spoilt-store.result ≡ false). as_was old new a.files b.files (c.in-Err.ensures.goes.refused (sym c.is_spoilt-store.ensures ∙ unspoilt)).1 (refl, refl, refl) (λ n. (seals.refused (sym c.is_spoilt-store.ensures ∙ unspoilt)).files (log_name n)) in
     record {
-      acts = sealing_acts {R = Unit {0}} old new a b stands.0 stands.1 c.args.moment stands.2.log.0 after G (Err c.in-Err.fault) stands.2 c.requires.ready.unspoilt c.requires.ready.late refl seals (λ key. refl)
+      acts = sealing_acts {R = Unit {0}} old new a b stands.0 stands.1 c.args.moment stands.2.log.0 after G (Err c.in-Err.fault) stands.2 c.requires.ready.unspoilt c.requires.ready.late refl seals (λ unspoilt. (kept unspoilt).content)
           (λ unspoilt. (stands.0, stands.1, still_stands old new a b stands.0 stands.1 stands.2 (kept unspoilt) c.requires.ready.late (seals.refused (sym c.is_spoilt-store.ensures ∙ unspoilt))))
           c.in-Err.ensures.goes.damaged c.in-Err.ensures.unspent
-          (λ err unspoilt. same_parts old new (kept unspoilt));
+          (λ err unspoilt. same_rows old new (kept unspoilt).files refl);
       content = tt;
-      unchanged = λ of sound key. refl;
+      unchanged = λ of sound. (kept sound).content;
       settled = tt;
       parts = tt;
       flushed = tt;
@@ -60,8 +60,8 @@ returns-in-Err-clause-told g c told =
 pub returns-clause-wrote : goal.returns-clause-wrote
 returns-clause-wrote g c told frames records stands =
     let old = c.args.store.now in
-    let new : LogStore = record old { log = c.seal.new.self; latest = c.args.moment } in
-    let F = old.log.files in
+    let new : LogStore = record old { parts = record old.parts { log = c.seal.new.self }; latest = c.args.moment } in
+    let F = old.parts.log.files in
     let G = c.seal.new.self.files in
     let a = g.H.Host.state c.args.host.now in
     let b = g.H.Host.state c.seal.new.host in
@@ -72,13 +72,13 @@ returns-clause-wrote g c told frames records stands =
     let goes = c.in_default.ensures.goes in
     let main_now = goes.store ∙ main in
     stands_sealed old new a b frames records (CountsOneOf frames (closed_frames (waiting old) frames records c.args.moment)) stands c.in_default.ensures.sealed.file seals.images seals.files c.args.moment
-    main_now (stands.log.0, to_main G b (after tt) main_now seals.stands) (named_main G main_now (goes.usable goes.ok)) (λ key. refl) c.in_default.ensures.takes.0 c.requires.ready.late refl
+    main_now (stands.log.0, to_main G b (after tt) main_now seals.stands) (named_main G main_now (goes.usable goes.ok)) stands.indexed c.in_default.ensures.takes.0 c.requires.ready.late refl
 
 pub returns-clause-told : goal.returns-clause-told
 returns-clause-told g c told =
     let old = c.args.store.now in
-    let new : LogStore = record old { log = c.seal.new.self; latest = c.args.moment } in
-    let F = old.log.files in
+    let new : LogStore = record old { parts = record old.parts { log = c.seal.new.self }; latest = c.args.moment } in
+    let F = old.parts.log.files in
     let G = c.seal.new.self.files in
     let a = g.H.Host.state c.args.host.now in
     let b = g.H.Host.state c.seal.new.host in
@@ -89,19 +89,23 @@ returns-clause-told g c told =
     let after = λ (answer : Unit {0}). sealed_held F.unsealed c.args.moment held in
     let seals = seals_main {R = Unit {0}} F G a b c.args.moment held after (Ok tt) main (c.in_default.ensures.told told held (from_main F a held main stands.2.log.1)) in
     let now = returns-clause-wrote g c told stands.0 stands.1 stands.2 in
+    let content : SameContent (content_of old a.files) (content_of new b.files) =
+    content_same old new a b stands.0 more stands.1 [] stands.2 now
+    (sealed_records old new a b stands.0 stands.1 (CountsOneOf stands.0 more) stands.2 c.in_default.ensures.sealed.file seals.images seals.files c.args.moment)
+    in
     record {
-      acts = sealing_acts {R = Unit {0}} old new a b stands.0 stands.1 c.args.moment stands.2.log.0 after G (Ok tt) stands.2 c.requires.ready.unspoilt c.requires.ready.late refl seals (λ key. refl)
+      acts = sealing_acts {R = Unit {0}} old new a b stands.0 stands.1 c.args.moment stands.2.log.0 after G (Ok tt) stands.2 c.requires.ready.unspoilt c.requires.ready.late refl seals (λ unspoilt. content)
           (λ unspoilt. (more, [], now)) (λ d err. cc) (λ s err. cc) (λ err. cc);
-      content = λ key. refl;
+      content = content;
       unchanged = λ of. cc;
       settled = settled_now new b more [] refl now;
-      parts = sealed_parts old new c.in_default.ensures.sealed.tail;
-      flushed = flushed_row _;
+      parts = sealed_parts old new refl c.in_default.ensures.sealed.tail;
+      flushed = flushed_row _ _;
     }
 
 pub returns-in-Err-clause-others : goal.returns-in-Err-clause-others
 returns-in-Err-clause-others g c told =
-    let F = c.args.store.now.log.files in
+    let F = c.args.store.now.parts.log.files in
     let G = c.seal.new.self.files in
     let a = g.H.Host.state c.args.host.now in
     let b = g.H.Host.state c.seal.new.host in
@@ -112,7 +116,7 @@ returns-in-Err-clause-others g c told =
 
 pub returns-clause-others : goal.returns-clause-others
 returns-clause-others g c told =
-    let F = c.args.store.now.log.files in
+    let F = c.args.store.now.parts.log.files in
     let G = c.seal.new.self.files in
     let a = g.H.Host.state c.args.host.now in
     let b = g.H.Host.state c.seal.new.host in

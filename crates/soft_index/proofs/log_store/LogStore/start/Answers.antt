@@ -1,19 +1,26 @@
-use Rattle.std.proofs.Common.{[], refl}
-use Rattle.soft_index.proofs.Openings.{if-ok, opened-before, damage-before}
+use Rattle.std.proofs.Common.{IfOk, [], refl, subst}
+use Rattle.std.proofs.lemmas.Result.{IfOk-weaker}
+use Rattle.soft_index.specs.Store.{IsFirstDamageOf, IsOpened}
 use Rattle.soft_index.proofs.Images.{settled_now}
+use Rattle.soft_index.proofs.Opened.{opened_of}
 use Rattle.soft_index.proofs.log_store.LogStore.start.Goals as goal
 
-pub returns-clause-opened : goal.returns-clause-opened
-returns-clause-opened g c told =
-    if-ok c.open.result _ _ (c.open.ensures.opened told)
-    (λ store is. opened-before (g.H.Host.state c.args.host.now).files (g.H.Host.state c.names.new.self).files (g.H.Host.state c.open.new.host) c.args.settings.now store (c.in_ok-names.ensures.told told).stands.files is)
+pub returns-in-Ok-clause-opened : goal.returns-in-Ok-clause-opened
+returns-in-Ok-clause-opened g c told =
+    let a = g.H.Host.state c.make.new._host in
+    let b = g.H.Host.state c.rebuild.new.host in
+    let is = c.in-Ok.ensures in
+    subst (λ h. IfOk c.store_of.result (λ store. IsOpened (g.H.Host.state h).files b c.args.settings.now store store.latest)) c.make.ensures.untouched
+    (IfOk-weaker c.store_of.result _ _
+    (λ store made. opened_of a b c.in-Ok.found c.rebuild.new.tree c.args.settings.now store (is.rebuilt told) (is.undamaged told) (is.read told).files (is.settled told) made)
+    c.store_of.ensures.made)
 
-pub returns-clause-settled : goal.returns-clause-settled
-returns-clause-settled g c told =
-    if-ok c.open.result _ _ (c.open.ensures.opened told)
-    (λ store is. settled_now store (g.H.Host.state c.open.new.host) [] [] refl is.stands)
+pub returns-in-Ok-clause-stands : goal.returns-in-Ok-clause-stands
+returns-in-Ok-clause-stands g c told = IfOk-weaker c.store_of.result _ _ (λ store is. ([], [], is.stands)) (returns-in-Ok-clause-opened g c told)
 
-pub returns-clause-damaged : goal.returns-clause-damaged
-returns-clause-damaged g c told damage err =
-    damage-before (g.H.Host.state c.args.host.now).files (g.H.Host.state c.names.new.self).files damage
-    (c.in_ok-names.ensures.told told).stands.files (c.open.ensures.damaged told damage err)
+pub returns-in-Ok-clause-settled : goal.returns-in-Ok-clause-settled
+returns-in-Ok-clause-settled g c told =
+    IfOk-weaker c.store_of.result _ _ (λ store is. settled_now store (g.H.Host.state c.rebuild.new.host) [] [] refl is.stands) (returns-in-Ok-clause-opened g c told)
+
+pub returns-in-Err-clause-damaged : goal.returns-in-Err-clause-damaged
+returns-in-Err-clause-damaged g c told damage err = subst (λ h. IsFirstDamageOf (g.H.Host.state h).files damage) c.make.ensures.untouched (c.in-Err.ensures.damaged told damage cc)

@@ -1,7 +1,7 @@
-use Rattle.std.proofs.Common.{Ok, Err}
+use Rattle.std.proofs.Common.{Ok, Err, arith}
 use Rattle.soft_index.specs.Store.{log_facts, log_means, content_of}
 use Rattle.soft_index.specs.Rule.{Allows}
-use Rattle.soft_index.proofs.Ruled.{acts_ruled, acts_answered, answer_ruled, gone_kept}
+use Rattle.soft_index.proofs.Ruled.{acts_ruled, acts_answered, answer_ruled, bytes_ruled, gone_kept}
 use Rattle.store_trait.specs.Meaning.{read_in}
 use Rattle.soft_index.proofs.soft_index.SoftIndexReadStore.load.Goals as goal
 
@@ -12,16 +12,16 @@ returns-in-Ok-clause-told g c told =
     let rule = c.args.self.now.forget in
     let key = c.args.key.now in
     let a = g.H.Host.state c.args.host.now in
-    let b = g.H.Host.state c.load.new._host in
+    let b = g.H.Host.state c.load.new.host in
     let first = c.in-Ok.ensures.told told in
     record {
-      acts = acts_answered _ _ (log_means old a) (log_means new b) a b c.args.moment (content_of old) c.in-Ok.answer c.by_rule.result
-          (acts_ruled (log_facts old) (log_facts new) _ _ (Allows g.F.Fn rule) (λ k none. absurd none) (λ k none. absurd none) (log_means old a) (log_means new b) a b c.args.moment (content_of old) (Ok c.in-Ok.answer) first.acts);
+      acts = acts_answered _ _ (log_means old a) (log_means new b) a b c.args.moment (content_of old a.files) c.in-Ok.answer c.by_rule.result
+          (acts_ruled (log_facts old) (log_facts new) _ _ (Allows g.F.Fn rule) (λ k none. absurd none) (λ k none. absurd none) (log_means old a) (log_means new b) a b c.args.moment (content_of old a.files) (Ok c.in-Ok.answer) first.acts);
       content = first.content;
-      answer = answer_ruled g.F.Fn rule key c.args.moment (read_in (content_of old) key) c.in-Ok.answer c.by_rule.result c.by_rule.ensures first.answer;
+      answer = answer_ruled g.F.Fn rule key c.args.moment (read_in (content_of old a.files) key) c.in-Ok.answer c.by_rule.result c.by_rule.ensures first.answer;
       parts = first.parts;
       most = first.most;
-      fetched = λ fetches. absurd fetches;
+      fetched = λ fetches. omega (arith, first.fetched fetches, bytes_ruled g.F.Fn rule key c.in-Ok.answer c.by_rule.result c.by_rule.ensures);
     }
 
 pub returns-in-Err-clause-told : goal.returns-in-Err-clause-told
@@ -29,15 +29,15 @@ returns-in-Err-clause-told g c told =
     let old = c.args.self.now.log in
     let new = c.load.new.self in
     let a = g.H.Host.state c.args.host.now in
-    let b = g.H.Host.state c.load.new._host in
+    let b = g.H.Host.state c.load.new.host in
     let first = c.in-Err.ensures.told told in
     record {
-      acts = acts_ruled (log_facts old) (log_facts new) _ _ (Allows g.F.Fn c.args.self.now.forget) (λ k none. absurd none) (λ k none. absurd none) (log_means old a) (log_means new b) a b c.args.moment (content_of old) (Err c.in-Err.fault) first.acts;
+      acts = acts_ruled (log_facts old) (log_facts new) _ _ (Allows g.F.Fn c.args.self.now.forget) (λ k none. absurd none) (λ k none. absurd none) (log_means old a) (log_means new b) a b c.args.moment (content_of old a.files) (Err c.in-Err.fault) first.acts;
       content = first.content;
       answer = tt;
       parts = tt;
       most = first.most;
-      fetched = λ fetches. absurd fetches;
+      fetched = first.fetched;
     }
 
 pub returns-in-Ok-clause-kept : goal.returns-in-Ok-clause-kept

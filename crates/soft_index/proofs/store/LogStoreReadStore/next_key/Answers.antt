@@ -1,30 +1,18 @@
 use Rattle.std.proofs.Common.{refl}
+use Rattle.std.specs.Prelude.{option_map}
+use Rattle.data_file.proofs.Frame.{placed_of}
 use Rattle.soft_index.specs.declared.log_store.LogStore.{LogStore}
-use Rattle.soft_index.specs.Store.{content_of}
-use Rattle.cache_disk.proofs.Runs.{Stands-same}
-use Rattle.soft_index.proofs.Changes.{still_acts, as_was}
+use Rattle.soft_index.specs.Store.{number}
+use Rattle.soft_index.proofs.Answering.{counts_there, walked}
 use Rattle.soft_index.proofs.store.LogStoreReadStore.next_key.Goals as goal
 
-pub returns-in-Ok-clause-told : goal.returns-in-Ok-clause-told
-returns-in-Ok-clause-told g c told =
+pub returns-clause-told : goal.returns-clause-told
+returns-clause-told g c told =
     let old = c.args.self.now in
-    let new : LogStore = record old { latest = c.args.moment } in
+    let new : LogStore = record old { parts = c.next_shown.new.parts; latest = c.args.moment } in
+    let a = g.H.Host.state c.args.host.now in
+    let b = g.H.Host.state c.next_shown.new.host in
     let stands = c.requires.stands told in
-    record {
-      acts = still_acts old new (g.H.Host.state c.args._host.now) (g.H.Host.state c.args._host.now) c.args.moment (content_of old) stands.0 stands.1 _ stands.2 c.requires.ready.unspoilt c.requires.ready.late refl (as_was old new refl (λ key. refl)) (Stands-same _) (λ d err. cc) (λ s err. cc);
-      content = λ key. refl;
-      next = c.in-Ok.ensures.next;
-      parts = refl;
-    }
-
-pub returns-in-Err-clause-told : goal.returns-in-Err-clause-told
-returns-in-Err-clause-told g c told =
-    let old = c.args.self.now in
-    let new : LogStore = record old { latest = c.args.moment } in
-    let stands = c.requires.stands told in
-    record {
-      acts = still_acts old new (g.H.Host.state c.args._host.now) (g.H.Host.state c.args._host.now) c.args.moment (content_of old) stands.0 stands.1 _ stands.2 c.requires.ready.unspoilt c.requires.ready.late refl (as_was old new refl (λ key. refl)) (Stands-same _) (λ d err. cc) (λ s err. cc);
-      content = λ key. refl;
-      next = tt;
-      parts = tt;
-    }
+    let ready = c.requires.ready in
+    let shows = c.next_shown.ensures.shows told (record { number = number old; items = placed_of stands.0 stands.1; files = a.files }) stands.2.indexed (counts_there old a stands.0 stands.1 stands.2) in
+    walked old new a b stands.0 stands.1 c.args.moment stands.2 ready.unspoilt ready.late refl (c.next_shown.ensures.stands told) (option_map (λ key. key.now) c.args.after) c.next_shown.result c.next_shown.ensures.looks shows c.next_shown.ensures.unspent

@@ -1,99 +1,95 @@
-use Rattle.std.proofs.Common.{◌≡◌, ◌∙◌, ℕ, ◌+◌, Bool, List, [], ◌∷◌, ◌++◌, Err, Ok, refl, sym, ap, subst, arith, true, false}
+use Rattle.std.proofs.Common.{◌≡◌, ◌∙◌, refl, ap, sym, Err, Ok, Some, true}
+use Rattle.std.specs.Prelude.{OnOk, Result}
+use Rattle.cache_model.specs.declared.faults.StoreFault.{StoreFault}
+use Rattle.cache_model.specs.declared.faults.StoreFault.TheVariants as fault
+use Rattle.cache_model.specs.declared.faults.Spent.{Spent}
 use Rattle.cache_disk.proofs.Runs.{Stands-same}
-use Rattle.cache_model.specs.Items.{Item}
-use Rattle.cache_model.specs.DataFiles.{Frame}
-use Rattle.store_trait.specs.Meaning.{changed, key_of}
-use Rattle.store_trait.proofs.Runs.{kept_same}
+use Rattle.store_trait.specs.Meaning.{changed}
 use Rattle.soft_index.specs.declared.log_store.LogStore.{LogStore}
-use Rattle.soft_index.specs.Store.{closes, content_of, log_facts, log_means}
-use Rattle.soft_index.proofs.Changes.{as_was, still_acts, still_keeps}
-use Rattle.soft_index.proofs.Putting.{sealed_in, waits_in}
-use Rattle.soft_index.proofs.Turning.{acts_both, acts_spoilt}
+use Rattle.soft_index.specs.Store.{IsWritten, content_of, log_facts, spent_by}
+use Rattle.soft_index.proofs.Changes.{as_was, still_acts}
+use Rattle.soft_index.proofs.Putting.{spent_number, written_from}
+use Rattle.soft_index.proofs.Roomed.{entered_after}
+use Rattle.soft_index.proofs.Turning.{plainly_then}
 use Rattle.soft_index.proofs.store.LogStoreStore.write.Goals as goal
 
-pub returns-in_default-clause-told : goal.returns-in_default-clause-told
-returns-in_default-clause-told g c told =
+-- where a number is at its end
+pub returns-in-Some-clause-told : goal.returns-in-Some-clause-told
+returns-in-Some-clause-told g c told =
     let old = c.args.self.now in
-    let new : LogStore = record old { latest = c.args.moment } in
+    let new : LogStore = record old { parts = record old.parts { spoilt = true }; latest = c.args.moment } in
     let a = g.H.Host.state c.args.host.now in
     let stands = c.requires.stands told in
-    let kept = as_was old new refl (λ key. refl) in
+    let spent : spent_by old c.args.change.now ≡ Some c.in-Some.spent = sym c.spent_by.ensures ∙ c.in-Some.is in
     record {
-      acts = still_acts {R = Unit {0}} old new a a c.args.moment (changed c.args.change.now (content_of old)) stands.0 stands.1 _ stands.2 c.requires.ready.unspoilt c.requires.ready.late refl kept (Stands-same a) (λ d err. cc) (λ s err. cc);
+      acts = still_acts {R = Unit {0}} old new a a c.args.moment (changed c.args.change.now (content_of old a.files)) stands.0 stands.1 (Err (fault.Spent c.in-Some.spent)) stands.2 c.requires.ready.unspoilt c.requires.ready.late refl
+          (as_was old new a.files a.files refl (refl, refl, refl) (λ n. refl)) (Stands-same a) (λ d err. cc)
+          (λ s err. let same : c.in-Some.spent ≡ s = cc in spent_number old new c.args.change.now s (spent ∙ ap (λ (x : Spent). Some x) same) (refl, refl)) (λ err. cc);
       content = tt;
-      unchanged = λ of sound key. refl;
-      kept = λ of sound. still_keeps old new a a c.args.moment stands.0 stands.1 stands.2 c.requires.ready.unspoilt c.requires.ready.late refl kept (Stands-same a);
-      quiet = λ quiet. cc;
-      firm = λ firm. tt;
-      parts = tt;
-    }
-
-pub returns-in-Err-clause-told : goal.returns-in-Err-clause-told
-returns-in-Err-clause-told g c told =
-    let ens = c.in-Err.ensures in
-    record {
-      acts = ens.told told;
-      content = tt;
-      unchanged = λ of sound. ens.unchanged of sound;
-      kept = λ of sound. ens.kept told of sound;
-      quiet = λ quiet. cc;
-      firm = λ firm. tt;
-      parts = tt;
-    }
-
-pub returns-then-not-self-clause-wrote : goal.returns-then-not-self-clause-wrote
-returns-then-not-self-clause-wrote g c told frames records stands =
-    let old = c.args.self.now in
-    waits_in c.args.change.now c.args.moment frames records old c.put.new.store (g.H.Host.state c.put.new.host) (sym c.put.ensures.plain.same.firm ∙ c.if-not-self.true) c.in_default-put.ensures.number (c.in_default-put.ensures.wrote told frames records stands)
-
-pub returns-in-Err-seal-clause-told : goal.returns-in-Err-seal-clause-told
-returns-in-Err-seal-clause-told g c told =
-    let old = c.args.self.now in
-    let mid = c.put.new.store in
-    let last = c.seal.new.store in
-    let new : LogStore = record last { spoilt = true } in
-    let a = g.H.Host.state c.args.host.now in
-    let b = g.H.Host.state c.put.new.host in
-    let d = g.H.Host.state c.seal.new.host in
-    let w = changed c.args.change.now (content_of old) in
-    let second = acts_spoilt {R = Unit {0}} mid last new b d c.args.moment (content_of mid) (Err c.in-Err-seal.fault) refl (λ s is. is) (c.in-Err-seal.ensures.told told).acts in
-    record {
-      acts = acts_both {T = Unit {0}} {U = Unit {0}} (log_facts old) (log_facts mid) (log_facts new) (log_means old a) (log_means mid b) (log_means new d) a b d c.args.moment w (content_of mid) (Ok tt) (Err c.in-Err-seal.fault)
-          c.put.ensures.plain.same (c.in_default-put.ensures.told told) second (kept_same (log_facts old) c.args.moment w (content_of mid) c.in_default-put.ensures.content) (λ of sound. let no : true ≡ false = sound in cc);
-      content = tt;
-      unchanged = λ of sound. let no : true ≡ false = sound in cc;
-      kept = λ of sound. let no : true ≡ false = sound in cc;
-      quiet = λ quiet. cc;
-      firm = λ firm. tt;
-      parts = tt;
-    }
-
-pub returns-clause-told : goal.returns-clause-told
-returns-clause-told g c told =
-    let old = c.args.self.now in
-    let mid = c.put.new.store in
-    let last = c.seal.new.store in
-    let a = g.H.Host.state c.args.host.now in
-    let b = g.H.Host.state c.put.new.host in
-    let d = g.H.Host.state c.seal.new.host in
-    let w = changed c.args.change.now (content_of old) in
-    let second = c.in_default-seal.ensures.told told in
-    let current = c.in_default-put.ensures.current in
-    record {
-      acts = acts_both {T = Unit {0}} {U = Unit {0}} (log_facts old) (log_facts mid) (log_facts last) (log_means old a) (log_means mid b) (log_means last d) a b d c.args.moment w (content_of mid) (Ok tt) (Ok tt)
-          c.put.ensures.plain.same (c.in_default-put.ensures.told told) second.acts (kept_same (log_facts old) c.args.moment w (content_of mid) c.in_default-put.ensures.content) (λ of sound. cc);
-      content = λ key. second.content key ∙ c.in_default-put.ensures.content key;
       unchanged = λ of. cc;
       kept = λ of. cc;
       quiet = λ quiet. cc;
-      firm = λ firm. second.settled.each (key_of c.args.change.now);
-      parts = (current.0, second.parts ∙ current.1);
+      firm = λ firm. tt;
+      parts = tt;
     }
+
+-- where there is room
+
+pub enter-requires-clause-stands : goal.enter-requires-clause-stands
+enter-requires-clause-stands g c told =
+    let stands = c.requires.stands told in
+    (stands.0, stands.1, c.make_room.ensures.kept told c.in_default-make_room.ensures.plain.unspoilt stands.0 stands.1 stands.2)
+
+-- where no room was made
+pub returns-in-Err-clause-told : goal.returns-in-Err-clause-told
+returns-in-Err-clause-told g c told =
+    let old = c.args.self.now in
+    let new = c.make_room.new.store in
+    let a = g.H.Host.state c.args.host.now in
+    let b = g.H.Host.state c.make_room.new.host in
+    let ens = c.make_room.ensures in
+    record {
+      acts = c.in-Err.ensures.told told (changed c.args.change.now (content_of old a.files));
+      content = tt;
+      unchanged = λ of unspoilt. ens.content told unspoilt;
+      kept = λ of unspoilt. (c.in-Err.ensures.told told (content_of old a.files)).keeps;
+      quiet = λ quiet. cc;
+      firm = λ firm. tt;
+      parts = tt;
+    }
+
+pub returns-clause-plain : goal.returns-clause-plain
+returns-clause-plain g c =
+    plainly_then {T = Unit {0}} {U = Unit {0}} (log_facts c.args.self.now) (log_facts c.make_room.new.store) (log_facts c.enter.new.store) c.args.moment c.make_room.result c.enter.result c.make_room.ensures.plain c.enter.ensures.plain
 
 pub returns-clause-wrote : goal.returns-clause-wrote
 returns-clause-wrote g c told frames records stands =
     let old = c.args.self.now in
-    let mid = c.put.new.store in
-    sealed_in c.args.change.now c.args.moment frames records old mid c.seal.new.store (g.H.Host.state c.put.new.host) (g.H.Host.state c.seal.new.host) (sym c.put.ensures.plain.same.firm ∙ c.if-not-self.false)
-    c.in_default-put.ensures.number c.in_default-seal.ensures.number (c.in_default-put.ensures.wrote told frames records stands)
-    (λ fs rs now. c.in_default-seal.ensures.wrote told fs rs now) (c.seal.ensures.others told)
+    let mid = c.make_room.new.store in
+    let new = c.enter.new.store in
+    let d = g.H.Host.state c.enter.new.host in
+    let unspoilt = c.in_default-make_room.ensures.plain.unspoilt in
+    let wrote = c.enter.ensures.wrote told frames records (c.make_room.ensures.kept told unspoilt frames records stands) in
+    by c.enter.result wrote
+  where
+    by : (result : Result (Unit {0}) StoreFault)
+        → OnOk result (IsWritten c.args.change.now c.args.moment frames records c.make_room.new.store c.enter.new.store (g.H.Host.state c.enter.new.host))
+        → OnOk result (IsWritten c.args.change.now c.args.moment frames records c.args.self.now c.enter.new.store (g.H.Host.state c.enter.new.host))
+    by (Ok done) is =
+        written_from c.args.change.now c.args.moment frames records c.args.self.now c.make_room.new.store c.enter.new.store (g.H.Host.state c.enter.new.host)
+        (c.make_room.ensures.log c.in_default-make_room.ensures.plain.unspoilt) c.make_room.ensures.plain.same.firm is
+    by (Err f) is = tt
+
+pub returns-clause-told : goal.returns-clause-told
+returns-clause-told g c told =
+    let old = c.args.self.now in
+    let mid = c.make_room.new.store in
+    let new = c.enter.new.store in
+    let a = g.H.Host.state c.args.host.now in
+    let b = g.H.Host.state c.make_room.new.host in
+    let d = g.H.Host.state c.enter.new.host in
+    let unspoilt = c.in_default-make_room.ensures.plain.unspoilt in
+    let same = c.make_room.ensures.content told unspoilt in
+    let first = c.in_default-make_room.ensures.told told in
+    let second = c.enter.ensures.told told in
+    entered_after old mid new a b d c.args.change.now c.args.moment c.enter.result c.make_room.ensures.plain.same same first second (c.make_room.ensures.rows unspoilt) c.make_room.ensures.limit c.in_default-make_room.ensures.room
