@@ -12,7 +12,7 @@ use Rattle.cache_model.specs.Transcript.{Answers, after_answer, IsTranscript, co
 use Rattle.cache_model.proofs.Prefixes.{plain_after_all-append}
 use Rattle.cache_disk.specs.Calls.{and_then_said}
 use Rattle.store_trait.specs.Meaning.{Row}
-use Rattle.cache_cli.specs.Parts.{parts_with, AnswerMoves, PartsThrough}
+use Rattle.cache_cli.specs.Pump.{HasMoved}
 use Rattle.cache_cli.specs.Talk.{Course, Talk, IsTalk, end_commands, done_in, plain_of, text_of, end_text, is_over}
 
 -- a talk with one answer more
@@ -60,7 +60,7 @@ commands_done-append publish plain (l ∷ lines) (r ∷ responses) line response
     ∙ sym (append_assoc (command_done (meaning_of l) r) (commands_done lines responses) (command_done (meaning_of line) response))
 
 -- what one answer makes of the plain map is what its command does
-after-answer : (plain : Plain) (meaning : LineMeaning) (response : Response) → after_answer plain meaning response ≡ plain_after_all plain (command_done meaning response)
+pub after-answer : (plain : Plain) (meaning : LineMeaning) (response : Response) → after_answer plain meaning response ≡ plain_after_all plain (command_done meaning response)
 after-answer plain (refuses refusal) response = refl
 after-answer plain (asks command) (replies reply) = refl
 after-answer plain (asks command) (refused refusal) = refl
@@ -87,19 +87,6 @@ transcript-append publish plain (l ∷ lines) (r ∷ responses) line response is
       λ last. absurd (not_both (ends_talk r) last (first_false (ends_talk r) (list_any ends_talk responses) going)),
       transcript-append publish next lines responses line response is.2 (second_false (ends_talk r) (list_any ends_talk responses) going) (subst (λ (p : Plain). Answers publish p (meaning_of line) response) same answers),
     )
-
--- one answer more moves the parts on
-parts-append : (plain : Plain) (lines : List (List ℕ)) (responses : List Response) (line : List ℕ) (response : Response) (a c b : List Row) → PartsThrough plain lines responses a c
-    → AnswerMoves (plain_after_all plain (commands_done lines responses)) (meaning_of line) response c b
-    → PartsThrough plain (lines ++ line ∷ []) (responses ++ response ∷ []) a b
-parts-append plain [] [] line response a c b is moves = (b, subst (λ (x : List Row). AnswerMoves plain (meaning_of line) response x b) is moves, refl)
-parts-append plain [] (r ∷ responses) line response a c b is moves = absurd is
-parts-append plain (l ∷ lines) [] line response a c b is moves = absurd is
-parts-append plain (l ∷ lines) (r ∷ responses) line response a c b is moves =
-    let next = after_answer plain (meaning_of l) r in
-    let same : plain_after_all plain (command_done (meaning_of l) r ++ commands_done lines responses) ≡ plain_after_all next (commands_done lines responses) =
-    plain_after_all-append plain (command_done (meaning_of l) r) (commands_done lines responses) ∙ ap (λ (p : Plain). plain_after_all p (commands_done lines responses)) (sym (after-answer plain (meaning_of l) r)) in
-    (is.0, is.1, parts-append next lines responses line response is.0 c b is.2 (subst (λ (p : Plain). AnswerMoves p (meaning_of line) response c b) same moves))
 
 response_lines-append : (responses : List Response) (response : Response) → response_lines (responses ++ response ∷ []) ≡ response_lines responses ++ line_of (response_text response)
 response_lines-append [] response = append-nil (line_of (response_text response))
@@ -131,43 +118,34 @@ said-append None one two = refl
 said-append (Some said) one two = ap (λ (l : List ℕ). Some l) (append_assoc said one two)
 
 module _ (course : Course) (left : List (List ℕ)) (talk : Talk) (going : is_over talk ≡ false) where
+  -- the commands of its lines are all that were done
+  pub done-going : done_in talk ≡ commands_done talk.answered talk.responses
+  done-going = ap (λ (b : Bool). commands_done talk.answered talk.responses ++ end_commands b) (not_ended talk going) ∙ append-nil (commands_done talk.answered talk.responses)
+
   -- the commands of a talk with one answer more
   pub done-append : (line : List ℕ) (response : Response) → IsTalk talk course (line ∷ left) → done_in (with_answer talk line response) ≡ done_in talk ++ command_done (meaning_of line) response
   done-append line response is =
-      let none : commands_done talk.answered talk.responses ≡ done_in talk = sym (ap (λ (b : Bool). commands_done talk.answered talk.responses ++ end_commands b) (not_ended talk going) ∙ append-nil (commands_done talk.answered talk.responses)) in
       ap (λ (b : Bool). commands_done (talk.answered ++ line ∷ []) (talk.responses ++ response ∷ []) ++ end_commands b) (not_ended talk going)
       ∙ append-nil (commands_done (talk.answered ++ line ∷ []) (talk.responses ++ response ∷ []))
       ∙ commands_done-append [] talk.opening talk.answered talk.responses line response is.answers
-      ∙ ap (λ (cs : List Command). cs ++ command_done (meaning_of line) response) none
+      ∙ ap (λ (cs : List Command). cs ++ command_done (meaning_of line) response) (sym done-going)
 
   -- a talk with one answer more is about the lines that are left then
-  pub talk-append : (line : List ℕ) (response : Response) (parts : List Row) → IsTalk talk course (line ∷ left) → Answers [] (plain_of talk) (meaning_of line) response
-      → PartsThrough talk.opening (talk.answered ++ line ∷ []) (talk.responses ++ response ∷ []) (parts_with None) parts → IsTalk (with_answer talk line response) course left
-  talk-append line response parts is answers moved = record {
+  pub talk-append : (line : List ℕ) (response : Response) (taken : ℕ) (rows : List Row) → IsTalk talk course (line ∷ left) → Answers [] (plain_of talk) (meaning_of line) response
+      → HasMoved course.pace talk.opening (talk.answered ++ line ∷ []) (talk.responses ++ response ∷ []) taken rows → IsTalk (with_answer talk line response) course left
+  talk-append line response taken rows is answers moved = record {
     opens = is.opens;
     first = is.first;
     file = is.file;
     split = is.split ∙ sym (append_assoc talk.answered (line ∷ []) left);
     answers = transcript-append [] talk.opening talk.answered talk.responses line response is.answers (none_ends talk going)
-        (subst (λ (cs : List Command). Answers [] (plain_after_all talk.opening cs) (meaning_of line) response) none answers);
-    parts = (parts, moved);
+        (subst (λ (cs : List Command). Answers [] (plain_after_all talk.opening cs) (meaning_of line) response) done-going answers);
+    parts = (taken, moved.parts, moved.moved);
     whole = λ ended. absurd (never (sym (not_ended talk going) ∙ ended));
   }
     where
-      none : done_in talk ≡ commands_done talk.answered talk.responses
-      none = ap (λ (b : Bool). commands_done talk.answered talk.responses ++ end_commands b) (not_ended talk going) ∙ append-nil (commands_done talk.answered talk.responses)
-
       never : false ≡ true → ⊥
       never h = cc
-
-  -- the parts with one answer more
-  pub moved-append : (line : List ℕ) (response : Response) (c b : List Row) → PartsThrough talk.opening talk.answered talk.responses (parts_with None) c
-      → AnswerMoves (plain_of talk) (meaning_of line) response c b
-      → PartsThrough talk.opening (talk.answered ++ line ∷ []) (talk.responses ++ response ∷ []) (parts_with None) b
-  moved-append line response c b is moves =
-      parts-append talk.opening talk.answered talk.responses line response (parts_with None) c b is
-      (subst (λ (cs : List Command). AnswerMoves (plain_after_all talk.opening cs) (meaning_of line) response c b)
-      (ap (λ (e : Bool). commands_done talk.answered talk.responses ++ end_commands e) (not_ended talk going) ∙ append-nil (commands_done talk.answered talk.responses)) moves)
 
   -- what is said with one answer more
   pub says-append : (line : List ℕ) (response : Response) (said : Option (List ℕ)) → said ≡ and_then_said course.said (text_of talk)
@@ -179,7 +157,7 @@ module _ (course : Course) (left : List (List ℕ)) (talk : Talk) (going : is_ov
 
   -- a talk whose end is answered
   pub done-end : done_in (with_end talk) ≡ done_in talk ++ Stop ∷ []
-  done-end = ap (λ (cs : List Command). cs ++ Stop ∷ []) (sym (ap (λ (b : Bool). commands_done talk.answered talk.responses ++ end_commands b) (not_ended talk going) ∙ append-nil (commands_done talk.answered talk.responses)))
+  done-end = ap (λ (cs : List Command). cs ++ Stop ∷ []) (sym done-going)
 
   pub talk-end : IsTalk talk course left → left ≡ [] → IsTalk (with_end talk) course []
   talk-end is none = record {

@@ -14,7 +14,9 @@ use Rattle.store_trait.specs.Meaning.{read_in}
 use Rattle.store_trait.specs.Keeping.{HoldsNow}
 use Rattle.store_trait.proofs.Alike.{alike_same, alike_weaker}
 use Rattle.cache_script.specs.declared.line_reader.LineReader.{LineReader}
-use Rattle.cache_script.specs.LineReader.{IsNew}
+use Rattle.cache_script.specs.LineReader.{IsNew, unread}
+use Rattle.cache_cli.specs.Parts.{no_parts}
+use Rattle.cache_cli.specs.Pump.{steps_asked}
 use Rattle.cache_cli.specs.Talk.{Course, Talk, is_over}
 use Rattle.cache_cli.specs.Run.{View, HoldsSince, IsTelling, IsInHand, Told}
 use Rattle.cache_cli.specs.Steps.{IsTalkingOn, Ran}
@@ -36,7 +38,7 @@ module _ (course : Course) (ordered : Bool) (now : View) (begins : Begins course
   }
 
   -- the line that the session begins with is in hand
-  pub in_hand_opened : (bytes : List ℕ) → bytes ≡ opened_line now.moment → IsInHand now.host course ordered course.lines (first_talk begins.opening begins.first) bytes now
+  pub in_hand_opened : (bytes : List ℕ) → bytes ≡ opened_line now.moment → IsInHand now.host course ordered course.lines (first_talk begins.opening begins.first) 0 bytes now
   in_hand_opened bytes is = record {
     is_talk = begins.is_talk;
     says = ap (λ (s : Option (List ℕ)). and_then_said s bytes) begins.silent
@@ -68,7 +70,8 @@ module _ (course : Course) (ordered : Bool) (now : View) (begins : Begins course
       is_ordered = begins.is_ordered;
     };
     moment = begins.moment;
-    parts = begins.parts;
+    follows = begins.follows;
+    parts = record { parts = no_parts; is_rows = begins.parts; within = omega arith; moved = (0, omega arith, omega arith, refl) };
     numbers = (begins.first, begins.numbers, record { sequence = omega arith; file = omega arith; within = λ some. absurd (omega (arith, some)) });
     drawn = omega (arith, begins.drawn);
     made = omega (arith, begins.made);
@@ -81,15 +84,15 @@ module _ (course : Course) (ordered : Bool) (now : View) (begins : Begins course
 
 -- saying the first line ended the run
 pub finished_unsaid : (course : Course) (ordered : Bool) (talk : Talk) (old now : View) (ended : Status)
-    → Told old.host course ordered course.lines talk old now (Err ended) → Finished old.host course ordered now (Err ended)
+    → Told old.host course ordered course.lines talk 0 old now (Err ended) → Finished old.host course ordered now (Err ended)
 finished_unsaid course ordered talk old now ended told = record { whole = tt; ends = inl told.ends; holds = told.holds }
 
 -- no line could be taken
 pub finished_untaken : (from : HostState) (course : Course) (ordered : Bool) (talk : Talk) (old now : View)
-    → (talk.ended ≡ false) → (talk.responses ≡ []) → Told from course ordered course.lines talk old now (Ok tt) → Finished from course ordered now (Err status.NoMemory)
+    → (talk.ended ≡ false) → (talk.responses ≡ []) → Told from course ordered course.lines talk 0 old now (Ok tt) → Finished from course ordered now (Err status.NoMemory)
 finished_untaken from course ordered talk old now going none told = record {
   whole = tt;
-  ends = inr (ends_early from course ordered course.lines talk now now.host (told.goes, over) refl);
+  ends = inr (ends_early from course ordered course.lines talk 0 now now.host (told.goes, over) refl);
   holds = told.holds;
 }
   where
@@ -99,12 +102,16 @@ finished_untaken from course ordered talk old now going none told = record {
 -- a reader that has taken nothing talks on from the first line
 pub talks_new : (from : HostState) (course : Course) (ordered : Bool) (talk : Talk) (now : View) (reader : LineReader) (rest : List ℕ)
     → course.lines ≡ lines_of rest
-    → IsTelling from course ordered course.lines talk now (now.host.said now.host.turn)
+    → IsTelling from course ordered course.lines talk 0 now (now.host.said now.host.turn)
     → talk.ended ≡ false → talk.responses ≡ [] → talk.answered ≡ []
     → IsNew reader
     → IsTalkingOn from course ordered talk now reader rest
 talks_new from course ordered talk now reader rest lines telling going none nothing new = record {
-  talking = (subst (λ (left : List (List ℕ)). IsTelling from course ordered left talk now (now.host.said now.host.turn)) (lines ∙ ap (λ (l : List ℕ). lines_of (l ++ rest)) (sym new.nothing)) telling, over);
+  talking = (
+    subst (λ (taken : ℕ). IsTelling from course ordered (lines_of (unread reader rest)) talk taken now (now.host.said now.host.turn)) (sym (ap (λ (r : List Response). steps_asked course.pace.pump r) none))
+        (subst (λ (left : List (List ℕ)). IsTelling from course ordered left talk 0 now (now.host.said now.host.turn)) (lines ∙ ap (λ (l : List ℕ). lines_of (l ++ rest)) (sym new.nothing)) telling),
+    over,
+  );
   units = new.none ∙ ap units_of (sym nothing);
 }
   where

@@ -2,8 +2,10 @@
 use Rattle.std.proofs.Common.{◌≡◌, inl, inr, ⊎_elim, ℕ, ◌+◌, ◌≤◌, Bool, List, [], ◌∷◌, ◌++◌, length, Option, Some, Result, Ok, Err, refl, sym, ◌∙◌, ap, subst, arith, length-append}
 use Rattle.std.specs.Prelude.{sum_by}
 use Rattle.std.proofs.lemmas.Bool.{cases_lt}
-use Rattle.std.proofs.lemmas.List.Sums.{sum_by-append, sum_by-cons}
+use Rattle.std.proofs.lemmas.List.Sums.{sum_by_push}
 use Rattle.cache_model.specs.declared.commands.Command.{Command}
+use Rattle.cache_model.specs.declared.faults.Damage.{Damage}
+use Rattle.cache_model.specs.declared.faults.StoreFault.{StoreFault}
 use Rattle.cache_model.specs.declared.faults.StoreFault.TheVariants as fault
 use Rattle.cache_model.specs.declared.faults.Spent.{Spent}
 use Rattle.cache_model.specs.declared.replies.Status.{Status}
@@ -15,10 +17,10 @@ use Rattle.store_trait.specs.Keeping.{Carries, Leaves}
 use Rattle.store_trait.specs.Calls.{IsNumbered}
 use Rattle.cache_session.specs.Turns.{files_by, Turns, Goes}
 use Rattle.cache_cli.specs.Fitting.{IsLog}
-use Rattle.cache_cli.specs.Saying.{SaidBy}
-use Rattle.cache_cli.specs.Talk.{Course, Talk, done_in, plain_of, next_command}
+use Rattle.cache_cli.specs.Saying.{SaidBy, ended_by, IsNoDamage}
+use Rattle.cache_cli.specs.Talk.{Course, Talk, done_in, plain_of, next_command, asked_in}
 use Rattle.cache_cli.specs.Ends.{IsWithin, Says, EndsEarly, EndsUnsaid}
-use Rattle.cache_cli.specs.Run.{View, IsTelling, IsTalking, IsInHand, IsLost, EndsSaying, Told, EndsAtSpent, EndsBy}
+use Rattle.cache_cli.specs.Run.{View, IsTelling, IsPumping, IsTalking, IsInHand, IsLost, EndsSaying, Told, EndsAtSpent, EndsBy}
 use Rattle.cache_cli.proofs.Logs.{log_snoc}
 use Rattle.cache_cli.proofs.Running.{said_tells, unsaid_holds, leaves_all}
 
@@ -27,9 +29,9 @@ within_of : (n : ℕ) (first : Numbers) (now : Option Numbers) → IsNumbered n 
 within_of n first now is some = let ends = is.2.within some in (omega (arith, ends.0, is.2.sequence), ends.1)
 
 -- what a session told
-pub says_of : (from : HostState) (course : Course) (ordered : Bool) (left : List (List ℕ)) (talk : Talk) (old : View) (said : Option (List ℕ)) (to : HostState)
-    → IsTelling from course ordered left talk old said → to.said to.turn ≡ said → Says course to left talk
-says_of from course ordered left talk old said to telling same = record {
+pub says_of : (from : HostState) (course : Course) (ordered : Bool) (left : List (List ℕ)) (talk : Talk) (taken : ℕ) (old : View) (said : Option (List ℕ)) (to : HostState)
+    → IsTelling from course ordered left talk taken old said → to.said to.turn ≡ said → Says course to left talk
+says_of from course ordered left talk taken old said to telling same = record {
   is_talk = telling.is_talk;
   said = same ∙ telling.says;
   log = telling.standing.log;
@@ -38,13 +40,13 @@ says_of from course ordered left talk old said to telling same = record {
 }
 
 -- a run that is cut short behind what its session told
-pub ends_early : (from : HostState) (course : Course) (ordered : Bool) (left : List (List ℕ)) (talk : Talk) (old : View) (to : HostState)
-    → IsTalking from course ordered left talk old → to.said to.turn ≡ old.host.said old.host.turn → EndsEarly course to
-ends_early from course ordered left talk old to talking same = record {
+pub ends_early : (from : HostState) (course : Course) (ordered : Bool) (left : List (List ℕ)) (talk : Talk) (taken : ℕ) (old : View) (to : HostState)
+    → IsPumping from course ordered left talk taken old → to.said to.turn ≡ old.host.said old.host.turn → EndsEarly course to
+ends_early from course ordered left talk taken old to pumping same = record {
   talk = talk;
   left = left;
-  says = says_of from course ordered left talk old (old.host.said old.host.turn) to talking.0 same;
-  going = talking.1;
+  says = says_of from course ordered left talk taken old (old.host.said old.host.turn) to pumping.0 same;
+  going = pumping.1;
 }
 
 -- a run whose saying failed behind what its session told
@@ -65,7 +67,7 @@ pub ends_saying : (from : HostState) (course : Course) (ordered : Bool) (left : 
     → IsTalking from course ordered left talk old → mid.said mid.turn ≡ old.host.said old.host.turn → EndsSaying ended mid now.host → EndsBy ended course now
 ends_saying from course ordered left talk old now mid ended talking same = ⊎_elim
     (λ lost. subst (λ (s : Status). EndsBy s course now) (sym lost.0) (ends_unsaid from course ordered left talk old mid now.host talking same lost.1))
-    (λ memory. subst (λ (s : Status). EndsBy s course now) (sym memory.0) (ends_early from course ordered left talk old now.host talking (memory.1 ∙ same)))
+    (λ memory. subst (λ (s : Status). EndsBy s course now) (sym memory.0) (ends_early from course ordered left talk (asked_in course talk) old now.host talking (memory.1 ∙ same)))
 
 -- what a say that didn't say its bytes does
 saying : (bytes : List ℕ) (a b : HostState) (ended : Status) → SaidBy bytes a b (Err ended) → EndsSaying ended a b
@@ -80,21 +82,25 @@ saying bytes a b ended (Failed, said, is) = inl (
 saying bytes a b ended (Memory, said, is) = inr (is, ap (λ (t : ℕ). b.said t) (said.failed.memory refl).turn ∙ (said.failed.memory refl).said a.turn (omega arith))
 
 -- an answer in hand was said, or not
-pub told : (from : HostState) (course : Course) (ordered : Bool) (left : List (List ℕ)) (talk : Talk) (bytes : List ℕ) (old new : View) (result : Result (Unit {0}) Status)
-    → IsInHand from course ordered left talk bytes old
+pub told : (from : HostState) (course : Course) (ordered : Bool) (left : List (List ℕ)) (talk : Talk) (taken : ℕ) (bytes : List ℕ) (old new : View) (result : Result (Unit {0}) Status)
+    → IsInHand from course ordered left talk taken bytes old
     → new.facts ≡ old.facts
     → new.moment ≡ old.moment
     → Carries old.host.turn new.host.turn old.store new.store
     → SaidBy bytes old.host new.host result
-    → Told from course ordered left talk old new result
-told from course ordered left talk bytes old new (Ok done) hand same moment carries said =
-    let telling = said_tells from course ordered left talk bytes old new hand same carries said moment in
+    → Told from course ordered left talk taken old new result
+told from course ordered left talk taken bytes old new (Ok done) hand same moment carries said =
+    let telling = said_tells from course ordered left talk taken bytes old new hand same carries said moment in
     record { goes = telling; ends = tt; holds = telling.holds }
-told from course ordered left talk bytes old new (Err ended) hand same moment carries said = record {
+told from course ordered left talk taken bytes old new (Err ended) hand same moment carries said = record {
   goes = tt;
   ends = saying bytes old.host new.host ended said;
-  holds = unsaid_holds from course ordered left talk bytes old new hand same carries said.0 said.1;
+  holds = unsaid_holds from course ordered left talk taken bytes old new hand same carries said.0 said.1;
 }
+
+-- a call that said nothing
+pub quiet_end : (a b : HostState) → a.turn ≤ b.turn → Silent a b → b.said b.turn ≡ a.said a.turn
+quiet_end a b le silent = ⊎_elim (λ later. silent.since b.turn later (omega arith)) (λ early. let same : b.turn ≡ a.turn = omega (arith, early, le) in ap (λ (t : ℕ). b.said t) same ∙ silent.stays a.turn (omega arith)) (cases_lt a.turn b.turn)
 
 -- a number is at its end for a change of the command in hand
 pub ends_spent : (from : HostState) (course : Course) (ordered : Bool) (left : List (List ℕ)) (talk : Talk) (old new : View) (command : Command) (spoilt broken : Bool) (s : Spent)
@@ -108,11 +114,11 @@ ends_spent from course ordered left talk old new command spoilt broken s talking
     let log = so.standing.log ++ turn.changes in
     let is_log = log_snoc talk.opening (done_in talk) command so.standing.log turn.changes so.standing.is_log turn.order in
     let files : sum_by files_by (done_in talk ++ next_command left) ≡ sum_by files_by (done_in talk) + files_by command =
-    ap (λ (l : List Command). sum_by files_by (done_in talk ++ l)) hand ∙ sum_by-append files_by (done_in talk) (command ∷ []) ∙ ap (λ (n : ℕ). sum_by files_by (done_in talk) + n) (sum_by-cons files_by command [] ∙ omega arith) in
+    ap (λ (l : List Command). sum_by files_by (done_in talk ++ l)) hand ∙ sum_by_push files_by (done_in talk) command in
     record {
       talk = talk;
       left = left;
-      says = says_of from course ordered left talk old (old.host.said old.host.turn) new.host so (quiet_end old.host new.host turn.did.others.images.later turn.did.silent);
+      says = says_of from course ordered left talk (asked_in course talk) old (old.host.said old.host.turn) new.host so (quiet_end old.host new.host turn.did.others.images.later turn.did.silent);
       going = talking.1;
       log = log;
       is_log = subst (λ (l : List Command). IsLog talk.opening (done_in talk ++ l) log) (sym hand) is_log;
@@ -121,9 +127,20 @@ ends_spent from course ordered left talk old new command spoilt broken s talking
       sequence = λ n is. omega (arith, goes.sequence n (ap (λ (x : Spent). Err (fault.Spent x)) is), turn.did.drawn, so.drawn, length-append so.standing.log turn.changes);
       files = λ n is. omega (arith, goes.files n (ap (λ (x : Spent). Err (fault.Spent x)) is), turn.did.made, so.made, length-append so.standing.log turn.changes, files);
     }
-  where
-    quiet_end : (a b : HostState) → a.turn ≤ b.turn → Silent a b → b.said b.turn ≡ a.said a.turn
-    quiet_end a b le silent = ⊎_elim (λ later. silent.since b.turn later (omega arith)) (λ early. let same : b.turn ≡ a.turn = omega (arith, early, le) in ap (λ (t : ℕ). b.said t) same ∙ silent.stays a.turn (omega arith)) (cases_lt a.turn b.turn)
+
+-- a fault of the store that isn't damage ends the run so
+pub ends_by_fault : (course : Course) (now : View) (x : StoreFault) (ended : Status) → ended ≡ ended_by x → IsNoDamage x
+    → EndsEarly course now.host → ((s : Spent) → x ≡ fault.Spent s → EndsAtSpent course now) → EndsBy ended course now
+ends_by_fault course now fault.Failed ended is none early spent = subst (λ (s : Status). EndsBy s course now) (sym is) early
+ends_by_fault course now fault.Memory ended is none early spent = subst (λ (s : Status). EndsBy s course now) (sym is) early
+ends_by_fault course now (fault.Spent s) ended is none early spent = subst (λ (s : Status). EndsBy s course now) (sym is) (spent s refl)
+ends_by_fault course now (fault.Damaged damage) ended is none early spent = absurd none
+
+pub no_damage : (x : StoreFault) → ((damage : Damage) → x ≡ fault.Damaged damage → ⊥) → IsNoDamage x
+no_damage fault.Failed never = tt
+no_damage fault.Memory never = tt
+no_damage (fault.Spent s) never = tt
+no_damage (fault.Damaged damage) never = never damage refl
 
 -- saying leaves every file
 pub said_leaves : (bytes : List ℕ) (a b : HostState) (result : Result (Unit {0}) Status) → SaidBy bytes a b result → (owns : FileName → Bool) (which : Bool) → Leaves owns which a b

@@ -1,4 +1,5 @@
 mod Answering
+mod Background
 mod Beginning
 mod Built
 mod Composing
@@ -10,6 +11,7 @@ mod Lines
 mod Listing
 mod Logs
 mod Moving
+mod Pumping
 mod Running
 mod Same
 mod Serving

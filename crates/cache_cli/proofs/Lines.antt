@@ -1,6 +1,6 @@
 -- A line more is answered.
-use Rattle.std.proofs.Common.{◌≡◌, inl, ℕ, Bool, true, false, List, [], ◌∷◌, ◌++◌, Result, Ok, Err, None, refl, sym, ◌∙◌, ap, subst}
-use Rattle.std.specs.Prelude.{◌||◌, not}
+use Rattle.std.proofs.Common.{◌≡◌, inl, inr, ℕ, ◌+◌, Bool, true, false, List, [], ◌∷◌, ◌++◌, Result, Ok, Err, Some, None, refl, sym, ◌∙◌, ap, subst}
+use Rattle.std.specs.Prelude.{◌||◌, not, if◌then◌else◌}
 use Rattle.std.specs.List.{list_any}
 use Rattle.std.proofs.lemmas.List.{append-nil}
 use Rattle.std.proofs.lemmas.List.Folds.{list_any-append}
@@ -8,17 +8,19 @@ use Rattle.cache_model.specs.declared.commands.Command.{Command}
 use Rattle.cache_model.specs.declared.commands.Command.TheVariants.{Stop}
 use Rattle.cache_model.specs.declared.replies.Reply.{Reply}
 use Rattle.cache_model.specs.declared.replies.Status.{Status}
-use Rattle.cache_model.specs.Plain.{Plain, plain_reply}
+use Rattle.cache_model.specs.Plain.{Plain, plain_after_all}
 use Rattle.cache_model.specs.Lines.{LineMeaning, asks, refuses, meaning_of}
-use Rattle.cache_model.specs.Replies.{Response, Refusal, replies, refused, reply_text, refusal_text, response_text, line_of}
-use Rattle.cache_model.specs.Transcript.{IsReply, Answers, command_done, ends_talk}
+use Rattle.cache_model.specs.Replies.{Response, Refusal, replies, refused, memory, reply_text, refusal_text, response_text, line_of}
+use Rattle.cache_model.specs.Transcript.{Answers, command_done, ends_talk}
 use Rattle.cache_disk.specs.State.{HostState}
 use Rattle.cache_disk.specs.Calls.{and_then_said}
 use Rattle.store_trait.specs.Meaning.{Row}
-use Rattle.cache_cli.specs.Parts.{parts_with, CommandMoves, AnswerMoves, PartsThrough}
-use Rattle.cache_cli.specs.Talk.{Course, Talk, done_in, plain_of, is_over}
-use Rattle.cache_cli.specs.Run.{View, TellsMore, IsTelling, IsTalking, IsInHand, Told, AnswersBy, Answered, LongAnswered, Closed}
-use Rattle.cache_cli.proofs.Answering.{with_answer, with_end, not_ended, none_ends, done-append, talk-append, moved-append, says-append, done-end, talk-end, says-end}
+use Rattle.cache_cli.specs.Parts.{Parts, AnswerMoves, RowsMove}
+use Rattle.cache_cli.specs.Pump.{HasMoved}
+use Rattle.cache_cli.specs.Talk.{Course, Talk, done_in, plain_of, is_over, asked_in}
+use Rattle.cache_cli.specs.Run.{View, TellsMore, DoesBy, IsTelling, IsTalking, IsInHand, Told, AnswersBy, Answered, LongAnswered, Closed}
+use Rattle.cache_cli.proofs.Answering.{with_answer, with_end, not_ended, none_ends, done-going, done-append, talk-append, says-append, done-end, talk-end, says-end}
+use Rattle.cache_cli.proofs.Pumping.{asked-append, has_answered, has_stayed}
 use Rattle.cache_cli.proofs.Running.{retell}
 use Rattle.cache_cli.proofs.Ending.{says_of, ends_saying}
 
@@ -39,60 +41,88 @@ none_done : (meaning : LineMeaning) (refusal : Refusal) → command_done meaning
 none_done (asks command) refusal = refl
 none_done (refuses other) refusal = refl
 
--- and leaves the parts
-left_so : (plain : Plain) (meaning : LineMeaning) (refusal : Refusal) (parts : List Row) → AnswerMoves plain meaning (refused refusal) parts parts
-left_so plain (asks command) refusal parts = refl
-left_so plain (refuses other) refusal parts = refl
+-- and leaves the rows
+left_so : (queue : ℕ) (plain : Plain) (meaning : LineMeaning) (refusal : Refusal) (a : Parts) → AnswerMoves queue plain meaning (refused refusal) a a
+left_so queue plain (asks command) refusal a = inl refl
+left_so queue plain (refuses other) refusal a = refl
+
+-- the rows with one answer more
+moved-append : (course : Course) (left : List (List ℕ)) (talk : Talk) (going : is_over talk ≡ false) (line : List ℕ) (response : Response) (rows next : List Row)
+    → HasMoved course.pace talk.opening talk.answered talk.responses (asked_in course talk) rows
+    → RowsMove course.pace.queue (AnswerMoves course.pace.queue (plain_of talk) (meaning_of line) response) rows next
+    → HasMoved course.pace talk.opening (talk.answered ++ line ∷ []) (talk.responses ++ response ∷ []) (asked_in course talk) next
+moved-append course left talk going line response rows next moved moves =
+    has_answered course.pace talk.opening talk.answered talk.responses (asked_in course talk) rows next moved line response refl
+    (subst (λ (cs : List Command). RowsMove course.pace.queue (AnswerMoves course.pace.queue (plain_after_all talk.opening cs) (meaning_of line) response) rows next) (done-going course left talk going) moves)
 
 pub refusal_in_hand : (from : HostState) (course : Course) (ordered : Bool) (left : List (List ℕ)) (talk : Talk) (line : List ℕ) (refusal : Refusal) (now : View)
     → IsTalking from course ordered (line ∷ left) talk now
     → Answers [] (plain_of talk) (meaning_of line) (refused refusal)
-    → IsInHand from course ordered left (with_answer talk line (refused refusal)) (line_of (refusal_text refusal)) now
+    → IsInHand from course ordered left (with_answer talk line (refused refusal)) (asked_in course talk) (line_of (refusal_text refusal)) now
 refusal_in_hand from course ordered left talk line refusal now talking answers =
     let response = refused refusal in
     let is = talking.0.is_talk in
-    let parts = now.facts.parts in
-    let moved = moved-append course left talk talking.1 line response parts parts talking.0.parts (left_so (plain_of talk) (meaning_of line) refusal parts) in
-    retell from course ordered (line ∷ left) left talk now (now.host.said now.host.turn) (and_then_said (now.host.said now.host.turn) (line_of (refusal_text refusal)))
+    let rows = now.facts.parts in
+    let moved = moved-append course left talk talking.1 line response rows rows talking.0.parts (λ a at within. (a, at, within, left_so course.pace.queue (plain_of talk) (meaning_of line) refusal a)) in
+    retell from course ordered (line ∷ left) left talk (asked_in course talk) now (now.host.said now.host.turn) (and_then_said (now.host.said now.host.turn) (line_of (refusal_text refusal)))
     (talk.answered ++ line ∷ []) (talk.responses ++ response ∷ []) talk.ended talking.0
     (done-append course left talk talking.1 line response is ∙ ap (λ (cs : List Command). done_in talk ++ cs) (none_done (meaning_of line) refusal) ∙ append-nil (done_in talk))
-    (talk-append course left talk talking.1 line response parts is answers moved) moved
+    (talk-append course left talk talking.1 line response (asked_in course talk) rows is answers moved) moved
     (says-append course left talk talking.1 line response (now.host.said now.host.turn) talking.0.says)
+
+-- the answer of a turn is in hand
+turned_in_hand : (from : HostState) (course : Course) (ordered : Bool) (left : List (List ℕ)) (talk : Talk) (line : List ℕ) (response : Response) (commands : List Command) (old now : View)
+    → IsTalking from course ordered (line ∷ left) talk old
+    → Answers [] (plain_of talk) (meaning_of line) response
+    → command_done (meaning_of line) response ≡ commands
+    → now.host.said now.host.turn ≡ old.host.said old.host.turn
+    → TellsMore from course ordered talk commands now
+    → RowsMove course.pace.queue (AnswerMoves course.pace.queue (plain_of talk) (meaning_of line) response) old.facts.parts now.facts.parts
+    → IsInHand from course ordered left (with_answer talk line response) (asked_in course talk) (line_of (response_text response)) now
+turned_in_hand from course ordered left talk line response commands old now talking answers done said more moves =
+    let is = talking.0.is_talk in
+    let moved = moved-append course left talk talking.1 line response old.facts.parts now.facts.parts talking.0.parts moves in
+    more left (and_then_said (now.host.said now.host.turn) (line_of (response_text response))) (talk.answered ++ line ∷ []) (talk.responses ++ response ∷ []) talk.ended
+    (done-append course left talk talking.1 line response is ∙ ap (λ (cs : List Command). done_in talk ++ cs) done)
+    (talk-append course left talk talking.1 line response (asked_in course talk) now.facts.parts is answers moved) moved
+    (says-append course left talk talking.1 line response (now.host.said now.host.turn) (said ∙ talking.0.says))
 
 -- the reply of a command that was done is in hand
 pub reply_in_hand : (from : HostState) (course : Course) (ordered : Bool) (left : List (List ℕ)) (talk : Talk) (line : List ℕ) (command : Command) (reply : Reply) (old now : View)
     → IsTalking from course ordered (line ∷ left) talk old
     → meaning_of line ≡ asks command
-    → IsReply command (plain_reply [] (plain_of talk) command) (replies reply)
     → now.host.said now.host.turn ≡ old.host.said old.host.turn
-    → TellsMore from course ordered talk command now
-    → CommandMoves (plain_of talk) command reply old.facts.parts now.facts.parts
-    → IsInHand from course ordered left (with_answer talk line (replies reply)) (line_of (reply_text reply)) now
-reply_in_hand from course ordered left talk line command reply old now talking asked is_reply_of said more moves =
-    let response = replies reply in
-    let is = talking.0.is_talk in
-    let parts = now.facts.parts in
-    let moved = moved-append course left talk talking.1 line response old.facts.parts parts talking.0.parts
-    (subst (λ (m : LineMeaning). AnswerMoves (plain_of talk) m response old.facts.parts parts) (sym asked) moves) in
-    more left (and_then_said (now.host.said now.host.turn) (line_of (reply_text reply))) (talk.answered ++ line ∷ []) (talk.responses ++ response ∷ []) talk.ended
-    (done-append course left talk talking.1 line response is ∙ ap (λ (m : LineMeaning). done_in talk ++ command_done m response) asked)
-    (talk-append course left talk talking.1 line response parts is (subst (λ (m : LineMeaning). Answers [] (plain_of talk) m response) (sym asked) (inl is_reply_of)) moved) moved
-    (says-append course left talk talking.1 line response (now.host.said now.host.turn) (said ∙ talking.0.says))
+    → DoesBy (Some reply) from course ordered (line ∷ left) talk command old now
+    → IsInHand from course ordered left (with_answer talk line (replies reply)) (asked_in course talk) (line_of (reply_text reply)) now
+reply_in_hand from course ordered left talk line command reply old now talking asked said did =
+    turned_in_hand from course ordered left talk line (replies reply) (command ∷ []) old now talking
+    (subst (λ (m : LineMeaning). Answers [] (plain_of talk) m (replies reply)) (sym asked) (inl did.0)) (ap (λ (m : LineMeaning). command_done m (replies reply)) asked) said did.1
+    (subst (λ (m : LineMeaning). RowsMove course.pace.queue (AnswerMoves course.pace.queue (plain_of talk) m (replies reply)) old.facts.parts now.facts.parts) (sym asked) did.2)
+
+-- the refusal of a command for want of memory is in hand
+pub memory_in_hand : (from : HostState) (course : Course) (ordered : Bool) (left : List (List ℕ)) (talk : Talk) (line : List ℕ) (command : Command) (old now : View)
+    → IsTalking from course ordered (line ∷ left) talk old
+    → meaning_of line ≡ asks command
+    → now.host.said now.host.turn ≡ old.host.said old.host.turn
+    → DoesBy None from course ordered (line ∷ left) talk command old now
+    → IsInHand from course ordered left (with_answer talk line (refused memory)) (asked_in course talk) (line_of (refusal_text memory)) now
+memory_in_hand from course ordered left talk line command old now talking asked said did =
+    turned_in_hand from course ordered left talk line (refused memory) [] old now talking
+    (subst (λ (m : LineMeaning). Answers [] (plain_of talk) m (refused memory)) (sym asked) (inr (refl, did.0))) (none_done (meaning_of line) memory) said did.1
+    (subst (λ (m : LineMeaning). RowsMove course.pace.queue (AnswerMoves course.pace.queue (plain_of talk) m (refused memory)) old.facts.parts now.facts.parts) (sym asked) did.2)
 
 -- the answer to the end of the script is in hand
 pub end_in_hand : (from : HostState) (course : Course) (ordered : Bool) (talk : Talk) (reply : Reply) (old now : View)
     → IsTalking from course ordered [] talk old
-    → IsReply Stop (plain_reply [] (plain_of talk) Stop) (replies reply)
     → now.host.said now.host.turn ≡ old.host.said old.host.turn
-    → TellsMore from course ordered talk Stop now
-    → CommandMoves (plain_of talk) Stop reply old.facts.parts now.facts.parts
-    → IsInHand from course ordered [] (with_end talk) (line_of (reply_text reply)) now
-end_in_hand from course ordered talk reply old now talking stopped said more moves =
-    more [] (and_then_said (now.host.said now.host.turn) (line_of (reply_text reply))) talk.answered talk.responses true
+    → DoesBy (Some reply) from course ordered [] talk Stop old now
+    → IsInHand from course ordered [] (with_end talk) (asked_in course talk) (line_of (reply_text reply)) now
+end_in_hand from course ordered talk reply old now talking said did =
+    did.1 [] (and_then_said (now.host.said now.host.turn) (line_of (reply_text reply))) talk.answered talk.responses true
     (done-end course [] talk talking.1)
     (talk-end course [] talk talking.1 talking.0.is_talk refl)
-    (subst (λ (b : List Row). PartsThrough talk.opening talk.answered talk.responses (parts_with None) b) (sym moves) talking.0.parts)
-    (ap (λ (r : Response). and_then_said (now.host.said now.host.turn) (line_of (response_text r))) stopped ∙ says-end course [] talk talking.1 (now.host.said now.host.turn) (said ∙ talking.0.says))
+    (has_stayed course.pace talk.opening talk.answered talk.responses (asked_in course talk) old.facts.parts now.facts.parts talking.0.parts did.2)
+    (ap (λ (r : Response). and_then_said (now.host.said now.host.turn) (line_of (response_text r))) did.0 ∙ says-end course [] talk talking.1 (now.host.said now.host.turn) (said ∙ talking.0.says))
 
 module _ (from : HostState) (course : Course) (ordered : Bool) (left : List (List ℕ)) (talk : Talk) (line : List ℕ) (response : Response) (going : is_over talk ≡ false) where
   negated : (b : Bool) → true ≡ not b → b ≡ false
@@ -104,13 +134,20 @@ module _ (from : HostState) (course : Course) (ordered : Bool) (left : List (Lis
   negated_too false h = h
 
   -- an answer was said: the session talks on, or the talk is over
-  pub said_by : (more : Bool) (now : View) → more ≡ not (ends_talk response) → IsTelling from course ordered left (with_answer talk line response) now (now.host.said now.host.turn)
-      → AnswersBy more from course ordered left (talk.answered ++ line ∷ []) now
-  said_by true now is telling = record { talk = with_answer talk line response; talking = (telling, over-append talk line response going ∙ negated (ends_talk response) is); answers = refl }
+  pub said_by : (more : Bool) (now : View) → more ≡ not (ends_talk response) → IsTelling from course ordered left (with_answer talk line response) (asked_in course talk) now (now.host.said now.host.turn)
+      → AnswersBy more from course ordered left (talk.answered ++ line ∷ []) (asked_in course talk) now
+  said_by true now is telling =
+      let goes = negated (ends_talk response) is in
+      record {
+        talk = with_answer talk line response;
+        pumping = (telling, over-append talk line response going ∙ goes);
+        due = asked-append course.pace.pump talk.responses response ∙ ap (λ (b : Bool). asked_in course talk + (if b then 0 else course.pace.pump)) goes;
+        answers = refl;
+      }
   said_by false now is telling = record {
     talk = with_answer talk line response;
     left = left;
-    says = says_of from course ordered left (with_answer talk line response) now (now.host.said now.host.turn) now.host telling refl;
+    says = says_of from course ordered left (with_answer talk line response) (asked_in course talk) now (now.host.said now.host.turn) now.host telling refl;
     over = over-append talk line response going ∙ negated_too (ends_talk response) is;
     answers = refl;
     ends = not_ended talk going;
@@ -118,19 +155,19 @@ module _ (from : HostState) (course : Course) (ordered : Bool) (left : List (Lis
 
 module _ (from : HostState) (course : Course) (ordered : Bool) (left : List (List ℕ)) (talk : Talk) (line : List ℕ) (response : Response) (old mid now : View)
     (talking : IsTalking from course ordered (line ∷ left) talk old) (same : mid.host.said mid.host.turn ≡ old.host.said old.host.turn) where
-  pub answered_ok : (more : Bool) → more ≡ not (ends_talk response) → Told from course ordered left (with_answer talk line response) mid now (Ok tt)
-      → Answered from course ordered left (talk.answered ++ line ∷ []) now (Ok more)
+  pub answered_ok : (more : Bool) → more ≡ not (ends_talk response) → Told from course ordered left (with_answer talk line response) (asked_in course talk) mid now (Ok tt)
+      → Answered from course ordered left (talk.answered ++ line ∷ []) (asked_in course talk) now (Ok more)
   answered_ok more is told = record { goes = said_by from course ordered left talk line response talking.1 more now is told.goes; ends = tt; holds = told.holds }
 
-  pub answered_err : (ended : Status) → Told from course ordered left (with_answer talk line response) mid now (Err ended)
-      → Answered from course ordered left (talk.answered ++ line ∷ []) now (Err ended)
+  pub answered_err : (ended : Status) → Told from course ordered left (with_answer talk line response) (asked_in course talk) mid now (Err ended)
+      → Answered from course ordered left (talk.answered ++ line ∷ []) (asked_in course talk) now (Err ended)
   answered_err ended told = record { goes = tt; ends = ends_saying from course ordered (line ∷ left) talk old now mid.host ended talking same told.ends; holds = told.holds }
 
 -- a line that is too long
 pub long_answered : (from : HostState) (course : Course) (ordered : Bool) (left : List (List ℕ)) (talk : Talk) (line : List ℕ) (refusal : Refusal) (old now : View) (result : Result (Unit {0}) Status)
     → IsTalking from course ordered (line ∷ left) talk old
-    → Told from course ordered left (with_answer talk line (refused refusal)) old now result
-    → LongAnswered from course ordered left (talk.answered ++ line ∷ []) now result
+    → Told from course ordered left (with_answer talk line (refused refusal)) (asked_in course talk) old now result
+    → LongAnswered from course ordered left (talk.answered ++ line ∷ []) (asked_in course talk) now result
 long_answered from course ordered left talk line refusal old now (Ok done) talking told = record {
   goes = said_by from course ordered left talk line (refused refusal) talking.1 true now refl told.goes;
   ends = tt;
@@ -146,13 +183,13 @@ long_answered from course ordered left talk line refusal old now (Err ended) tal
 pub closed : (from : HostState) (course : Course) (ordered : Bool) (talk : Talk) (old mid now : View) (result : Result (Unit {0}) Status)
     → IsTalking from course ordered [] talk old
     → mid.host.said mid.host.turn ≡ old.host.said old.host.turn
-    → Told from course ordered [] (with_end talk) mid now result
+    → Told from course ordered [] (with_end talk) (asked_in course talk) mid now result
     → Closed from course ordered talk now result
 closed from course ordered talk old mid now (Ok done) talking same told = record {
   over = record {
     talk = with_end talk;
     left = [];
-    says = says_of from course ordered [] (with_end talk) now (now.host.said now.host.turn) now.host told.goes refl;
+    says = says_of from course ordered [] (with_end talk) (asked_in course talk) now (now.host.said now.host.turn) now.host told.goes refl;
     over = refl;
     answers = refl;
     ends = refl;

@@ -1,5 +1,5 @@
 -- A store that keeps the rules of parts moves them as the talk says.
-use Rattle.std.proofs.Common.{◌≡◌, ⊎_elim, List, [], ◌∷◌}
+use Rattle.std.proofs.Common.{◌≡◌, inl, ⊎_elim, ℕ, List, [], ◌∷◌, refl, ◌∙◌}
 use Rattle.cache_model.specs.declared.commands.Command.{Command}
 use Rattle.cache_model.specs.declared.commands.Command.TheVariants.{Step, Sync, Stop}
 use Rattle.cache_model.specs.declared.commands.StepKind.{StepKind}
@@ -9,33 +9,54 @@ use Rattle.cache_model.specs.declared.replies.Reply.{Reply}
 use Rattle.cache_model.specs.declared.replies.Turned.{Turned}
 use Rattle.cache_model.specs.Plain.{Plain, effect_of}
 use Rattle.store_trait.specs.Meaning.{Row, StoreFacts, StoreState}
+use Rattle.store_trait.specs.Keeping.{Carries}
 use Rattle.cache_session.specs.Changing.{IsOrder}
 use Rattle.cache_session.specs.Turns.{MovesBy, PartsBy, IsRoom, IsStepReply, StepMoves, way_of}
-use Rattle.cache_cli.specs.Parts.{ChangesMove, ActorMoves, CommandMoves, FollowsParts}
+use Rattle.cache_cli.specs.Parts.{ChangesMove, ActorMoves, RoomMoves, CommandMoves, RowsMove, FollowsParts}
 
-module _ (f : StoreFacts) (s : StoreState) (follows : FollowsParts f s) where
+-- rows that stay are those of the same parts
+pub rows_stay : (queue : ℕ) (rows next : List Row) → next ≡ rows → RowsMove queue (λ a b. b ≡ a) rows next
+rows_stay queue rows next same = λ a is within. (a, same ∙ is, within, refl)
+
+module _ (queue : ℕ) (f : StoreFacts) (s : StoreState) (follows : FollowsParts queue f s) where
   -- changes that are written in turn
-  changes_move : (changes : List Change) (a b : List Row) → MovesBy f.moves changes a b → ChangesMove changes a b
-  changes_move [] a b moves = moves
-  changes_move (change ∷ changes) a b moves = (moves.0, follows.moves change a moves.0 moves.1, changes_move changes moves.0 b moves.2)
+  changes_move : (changes : List Change) (rows next : List Row) → MovesBy f.moves changes rows next → RowsMove queue (ChangesMove queue changes) rows next
+  changes_move [] rows next moves = λ a is within. (a, moves ∙ is, within, refl)
+  changes_move (change ∷ changes) rows next moves = λ a is within.
+      let one = follows.moves change rows moves.0 moves.1 a is within in
+      let all = changes_move changes moves.0 next moves.2 one.0 one.1 one.2 in
+      (all.0, all.1, all.2, (one.0, one.3, all.3))
 
   -- a step
-  actor_moves : (kind : StepKind) (turned : Turned) (a b : List Row) → StepMoves kind s turned a b → ActorMoves kind turned a b
-  actor_moves Evict turned a b moves = moves
-  actor_moves Reap turned a b moves = moves
-  actor_moves Index turned a b moves = follows.steps Index turned a b moves
-  actor_moves Flush turned a b moves = follows.steps Flush turned a b moves
-  actor_moves Compact turned a b moves = follows.steps Compact turned a b moves
-  actor_moves Rotate turned a b moves = follows.steps Rotate turned a b moves
+  pub actor_moves : (kind : StepKind) (turned : Turned) (rows next : List Row) → StepMoves kind s turned rows next → RowsMove queue (ActorMoves kind turned) rows next
+  actor_moves Evict turned rows next moves = λ a is within. (a, moves.1 ∙ is, within, (moves.0, refl))
+  actor_moves Reap turned rows next moves = λ a is within. (a, moves.1 ∙ is, within, (moves.0, refl))
+  actor_moves Index turned rows next moves = follows.steps Index turned rows next moves
+  actor_moves Flush turned rows next moves = follows.steps Flush turned rows next moves
+  actor_moves Compact turned rows next moves = follows.steps Compact turned rows next moves
+  actor_moves Rotate turned rows next moves = follows.steps Rotate turned rows next moves
 
   -- a command that was done
-  pub command_moves : (command : Command) (plain : Plain) (changes : List Change) → IsOrder (effect_of plain command) changes → (reply : Reply) (a b : List Row)
-      → PartsBy (way_of command) f changes a b → IsStepReply command s a b reply → CommandMoves plain command reply a b
-  command_moves (Step kind) plain changes order reply a b parts step = (step.0, step.1, actor_moves kind step.0 a b step.2)
-  command_moves Sync plain changes order reply a b parts step = follows.empties a b parts
-  command_moves Stop plain changes order reply a b parts step = follows.empties a b parts
-  command_moves command plain changes order reply a b parts step = (changes, order, changes_move changes a b parts)
+  pub command_moves : (command : Command) (plain : Plain) (changes : List Change) → IsOrder (effect_of plain command) changes → (reply : Reply) (rows next : List Row)
+      → PartsBy (way_of command) f changes rows next → IsStepReply command s rows next reply → RowsMove queue (CommandMoves queue plain command reply) rows next
+  command_moves (Step kind) plain changes order reply rows next parts step = λ a is within.
+      let moved = actor_moves kind step.0 rows next step.2 a is within in
+      (moved.0, moved.1, moved.2, (step.0, step.1, moved.3))
+  command_moves Sync plain changes order reply rows next parts step = follows.empties rows next parts
+  command_moves Stop plain changes order reply rows next parts step = follows.empties rows next parts
+  command_moves command plain changes order reply rows next parts step = λ a is within.
+      let moved = changes_move changes rows next parts a is within in
+      (moved.0, moved.1, moved.2, (changes, order, moved.3))
 
   -- the room that was made before a refusal
-  pub room_left : (a b : List Row) → IsRoom f a b → b ≡ a
-  room_left a b = ⊎_elim (λ same. same) (λ room. follows.room a b room)
+  pub room_moves : (rows next : List Row) → IsRoom f rows next → RowsMove queue (RoomMoves queue) rows next
+  room_moves rows next = ⊎_elim (λ same a is within. (a, same ∙ is, within, inl refl)) (λ room. follows.room rows next room)
+
+  -- calls that leave the store's files alone
+  pub follows_later : (from to : ℕ) (t : StoreState) → Carries from to s t → FollowsParts queue f t
+  follows_later from to t carries = record {
+    moves = follows.moves;
+    empties = follows.empties;
+    room = follows.room;
+    steps = λ kind turned rows next steps. follows.steps kind turned rows next ((carries.steps kind turned rows next).0 steps);
+  }

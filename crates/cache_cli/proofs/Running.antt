@@ -2,11 +2,11 @@
 use Rattle.std.proofs.Common.{◌≡◌, ◌⊎◌, inl, inr, ⊎_elim, ℕ, ◌+◌, ◌-◌, ◌^◌, ◌≤◌, ◌<◌, Bool, false, List, [], ◌∷◌, ◌++◌, length, Option, Some, None, Result, Ok, Err, refl, sym, ◌∙◌, ap, subst, arith, length-append}
 use Rattle.std.specs.Prelude.{sum_by}
 use Rattle.std.proofs.lemmas.Bool.{cases_lt}
-use Rattle.std.proofs.lemmas.List.Sums.{sum_by-append, sum_by-cons}
+use Rattle.std.proofs.lemmas.List.{append-nil}
+use Rattle.std.proofs.lemmas.List.Sums.{sum_by_push}
 use Rattle.cache_model.specs.declared.commands.Command.{Command}
 use Rattle.cache_model.specs.declared.entries.Change.{Change}
 use Rattle.cache_model.specs.declared.faults.StoreFault.{StoreFault}
-use Rattle.cache_model.specs.declared.faults.StoreFault.TheVariants as fault
 use Rattle.cache_model.specs.declared.files.FileName.{FileName}
 use Rattle.cache_model.specs.declared.replies.Reply.{Reply}
 use Rattle.cache_model.specs.Plain.{Plain, plain_after_all, moment_after}
@@ -16,18 +16,20 @@ use Rattle.cache_disk.specs.declared.host.HostFault.{HostFault}
 use Rattle.cache_disk.specs.State.{HostState, Silent, GoesOn, Moves, SameFiles}
 use Rattle.cache_disk.specs.Calls.{Said, and_then_said}
 use Rattle.cache_disk.proofs.Runs.{weaker}
-use Rattle.store_trait.specs.Meaning.{Reading, Content, Row, Numbers, StoreFacts, StoreState}
+use Rattle.store_trait.specs.Meaning.{Reading, Content, Numbers, StoreFacts, StoreState}
 use Rattle.store_trait.specs.Keeping.{SameWhere, SameStore, Leaves, Carries, HoldsNow}
 use Rattle.store_trait.specs.Calls.{IsNumbered}
 use Rattle.store_trait.proofs.Runs.{leaves_then}
-use Rattle.cache_session.specs.Turns.{files_by, Turns}
-use Rattle.cache_cli.specs.Fitting.{promised_of, IsLog, ReadsPrefix, ReadsCut}
-use Rattle.cache_cli.specs.Parts.{parts_with, PartsThrough}
+use Rattle.cache_session.specs.Turns.{files_by, KeepsBy, IsContentAfter, Turns}
+use Rattle.cache_cli.specs.Fitting.{promised_of, IsLog}
+use Rattle.cache_cli.specs.Parts.{FollowsParts}
+use Rattle.cache_cli.specs.Pump.{HasMoved, files_by_steps}
 use Rattle.cache_cli.specs.Standing.{Standing}
-use Rattle.cache_cli.specs.Talk.{Course, Talk, IsTalk, done_in, plain_of, text_of, is_over, hand_of, next_command}
-use Rattle.cache_cli.specs.Run.{View, with_words, TellsAt, HoldsSince, IsTelling, IsTalking, IsInHand}
+use Rattle.cache_cli.specs.Talk.{Course, Talk, IsTalk, done_in, plain_of, text_of, is_over, hand_of, next_command, asked_in}
+use Rattle.cache_cli.specs.Run.{View, with_words, TellsAt, HoldsSince, IsTelling, IsPumping, IsTalking, IsInHand}
 use Rattle.cache_cli.proofs.Logs.{log_snoc, log_on}
-use Rattle.cache_cli.proofs.Standing.{in_turn, in_turn_whole, to_prefix, to_cut, fit_more, fit_all_more, done_one, refused_one, carried}
+use Rattle.cache_cli.proofs.Moving.{follows_later}
+use Rattle.cache_cli.proofs.Standing.{in_turn, in_turn_whole, to_prefix, to_cut, fit_more, fit_all_more, done_one, kept_one, carried}
 
 -- a call that said nothing: what was said by a turn since then is what was said before
 quiet : (a b : HostState) (t : ℕ) → a.turn ≤ t → t ≤ b.turn → Silent a b → b.said t ≡ a.said a.turn
@@ -52,47 +54,48 @@ tells_still course ordered s u t said fewer fewer_whole tells = record {
 others_then : (f g : StoreFacts) (a b c : HostState) → SameStore f g → Leaves f.owns false a b → Leaves f.owns false b c → Leaves g.owns false a c
 others_then f g a b c same first second = subst (λ (owns : FileName → Bool). Leaves owns false a c) (sym same.owns) (leaves_then f.owns false a b c first second)
 
-module _ (from : HostState) (course : Course) (ordered : Bool) (left : List (List ℕ)) (talk : Talk) (old new : View) (command : Command) (spoilt : Bool) (result : Result Reply StoreFault)
-    (talking : IsTalking from course ordered left talk old)
-    (hand : next_command left ≡ command ∷ [])
-    (same : SameStore old.facts new.facts)
-    (turn : Turns [] (plain_of talk) command old.facts new.facts spoilt old.store new.store old.host new.host result) where
-  log_is : IsLog talk.opening (done_in talk ++ command ∷ []) (talking.0.standing.log ++ turn.changes)
-  log_is = log_snoc talk.opening (done_in talk) command talking.0.standing.log turn.changes talking.0.standing.is_log turn.order
+-- with what a turn changed, a log goes on to one with the command in hand
+abbrev pub GoesOnTo : Course → List (List ℕ) → Talk → List Change → Type 0
+GoesOnTo course left talk log = (more : List Change) × IsLog talk.opening (done_in talk ++ hand_of (is_over talk) left) (log ++ more)
 
-  hand_is : command ∷ [] ≡ hand_of (is_over talk) left
-  hand_is = sym (ap (λ (b : Bool). hand_of b left) talking.1 ∙ hand)
+module _ (from : HostState) (course : Course) (ordered : Bool) (left : List (List ℕ)) (talk : Talk) (taken : ℕ) (old new : View) (command : Command) (spoilt : Bool) (result : Result Reply StoreFault)
+    (pumping : IsPumping from course ordered left talk taken old)
+    (same : SameStore old.facts new.facts)
+    (turn : Turns [] (plain_of talk) command old.facts new.facts spoilt old.store new.store old.host new.host result)
+    (on : GoesOnTo course left talk (pumping.0.standing.log ++ turn.changes)) where
+  abbrev log_then : List Change
+  log_then = pumping.0.standing.log ++ turn.changes
 
   -- within the turn everything fits the talk with the command in hand
   tells_within : (t : ℕ) (said : List ℕ) → old.host.turn ≤ t → t ≤ new.host.turn → new.host.said t ≡ Some said → TellsAt course ordered new.store t said
   tells_within t said late to is = record {
     talk = talk;
     left = left;
-    is_talk = talking.0.is_talk;
-    says = sym is ∙ quiet old.host new.host t late to turn.did.silent ∙ talking.0.says;
-    fits = λ key r mark may. subst (λ (h : List Command). ReadsPrefix course.synced talk.opening (done_in talk) h key r mark) hand_is
-        (to_prefix course.synced talk.opening (done_in talk) (command ∷ []) (talking.0.standing.log ++ turn.changes) talking.0.base key r mark talking.0.opening log_is
-        (in_turn talk.opening (done_in talk) course.synced ordered old.facts talking.0.base old.store new.store old.host.turn new.host.turn (plain_of talk).moment turn.changes talking.0.standing refl turn.did.keeps t key r mark late to may));
-    cut = λ orderly c mark may. subst (λ (h : List Command). ReadsCut course.synced talk.opening (done_in talk) h c mark) hand_is
-        (to_cut course.synced talk.opening (done_in talk) (command ∷ []) (talking.0.standing.log ++ turn.changes) talking.0.base c mark talking.0.opening log_is
-        (in_turn_whole talk.opening (done_in talk) course.synced ordered old.facts talking.0.base old.store new.store old.host.turn new.host.turn (plain_of talk).moment turn.changes talking.0.standing refl turn.did.keeps orderly t c mark late to may));
+    is_talk = pumping.0.is_talk;
+    says = sym is ∙ quiet old.host new.host t late to turn.did.silent ∙ pumping.0.says;
+    fits = λ key r mark may. to_prefix course.synced talk.opening (done_in talk) (hand_of (is_over talk) left) (log_then ++ on.0) pumping.0.base key r mark pumping.0.opening on.1
+        (fit_more (promised_of course.synced talk.opening (done_in talk)) log_then on.0 pumping.0.base key r mark
+        (in_turn talk.opening (done_in talk) course.synced ordered old.facts pumping.0.base old.store new.store old.host.turn new.host.turn (plain_of talk).moment turn.changes pumping.0.standing refl turn.did.keeps t key r mark late to may));
+    cut = λ orderly c mark may. to_cut course.synced talk.opening (done_in talk) (hand_of (is_over talk) left) (log_then ++ on.0) pumping.0.base c mark pumping.0.opening on.1
+        (fit_all_more (promised_of course.synced talk.opening (done_in talk)) log_then on.0 pumping.0.base c mark
+        (in_turn_whole talk.opening (done_in talk) course.synced ordered old.facts pumping.0.base old.store new.store old.host.turn new.host.turn (plain_of talk).moment turn.changes pumping.0.standing refl turn.did.keeps orderly t c mark late to may));
   }
 
   -- it holds through the turn, whatever it answers
   pub turn_holds : HoldsSince from course ordered new
   turn_holds = record {
-    others = others_then old.facts new.facts from old.host new.host same talking.0.holds.others turn.did.others;
-    past = λ t early. turn.did.silent.stays t (omega (arith, early, talking.0.holds.others.images.later)) ∙ talking.0.holds.past t early;
+    others = others_then old.facts new.facts from old.host new.host same pumping.0.holds.others turn.did.others;
+    past = λ t early. turn.did.silent.stays t (omega (arith, early, pumping.0.holds.others.images.later)) ∙ pumping.0.holds.past t early;
     each = λ t said since to is.
         ⊎_elim
         (λ early. tells_still course ordered old.store new.store t said (λ key r mark may. turn.did.keeps.past t key r mark early may) (λ c mark may. turn.did.keeps.past_whole t c mark early may)
-        (talking.0.holds.each t said since (omega (arith, early)) (sym (turn.did.silent.stays t (omega (arith, early))) ∙ is)))
+        (pumping.0.holds.each t said since (omega (arith, early)) (sym (turn.did.silent.stays t (omega (arith, early))) ∙ is)))
         (λ late. tells_within t said late to is)
         (cases_lt t old.host.turn);
     opens = λ t since to.
         ⊎_elim
-        (λ early. turn.did.opens.past t early (talking.0.holds.opens t since (omega (arith, early))))
-        (λ late. turn.did.opens.since talking.0.sound t late to)
+        (λ early. turn.did.opens.past t early (pumping.0.holds.opens t since (omega (arith, early))))
+        (λ late. turn.did.opens.since pumping.0.sound t late to)
         (cases_lt t old.host.turn);
   }
 
@@ -135,14 +138,14 @@ numbered_by : (n m : ℕ) (a b : Option Numbers) → n ≡ m → IsNumbered n a 
 numbered_by n m a b same is = subst (λ (k : ℕ). IsNumbered k a b) same is
 
 -- a talk told by other words of it
-pub retell : (from : HostState) (course : Course) (ordered : Bool) (left left_next : List (List ℕ)) (talk : Talk) (now : View) (said said_next : Option (List ℕ)) (answered : List (List ℕ)) (responses : List Response) (ended : Bool)
-    → IsTelling from course ordered left talk now said
+pub retell : (from : HostState) (course : Course) (ordered : Bool) (left left_next : List (List ℕ)) (talk : Talk) (taken : ℕ) (now : View) (said said_next : Option (List ℕ)) (answered : List (List ℕ)) (responses : List Response) (ended : Bool)
+    → IsTelling from course ordered left talk taken now said
     → done_in (with_words talk answered responses ended) ≡ done_in talk
     → IsTalk (with_words talk answered responses ended) course left_next
-    → PartsThrough talk.opening answered responses (parts_with None) now.facts.parts
+    → HasMoved course.pace talk.opening answered responses taken now.facts.parts
     → said_next ≡ and_then_said course.said (text_of (with_words talk answered responses ended))
-    → IsTelling from course ordered left_next (with_words talk answered responses ended) now said_next
-retell from course ordered left left_next talk now said said_next answered responses ended telling done is_talk moved says =
+    → IsTelling from course ordered left_next (with_words talk answered responses ended) taken now said_next
+retell from course ordered left left_next talk taken now said said_next answered responses ended telling done is_talk moved says =
     let next = with_words talk answered responses ended in
     let standing = standing_at talk.opening (done_in talk) (done_in next) course.synced ordered now.facts telling.base now.store now.host.turn (sym done) telling.standing in
     let len : length telling.standing.log ≡ length standing.0.log = ap (λ (l : List Change). length l) (sym standing.1) in
@@ -155,6 +158,7 @@ retell from course ordered left left_next talk now said said_next answered respo
       opening = telling.opening;
       standing = standing.0;
       moment = ap (λ (l : List Command). (plain_after_all talk.opening l).moment) done ∙ telling.moment;
+      follows = telling.follows;
       parts = moved;
       numbers = numbered_by (length telling.standing.log) (length standing.0.log) (Some talk.first) now.facts.numbers len telling.numbers;
       drawn = omega (arith, telling.drawn, len);
@@ -165,19 +169,32 @@ retell from course ordered left left_next talk now said said_next answered respo
 module _ (from : HostState) (course : Course) (ordered : Bool) (left : List (List ℕ)) (talk : Talk) (old new : View) (command : Command) (spoilt : Bool)
     (talking : IsTalking from course ordered left talk old)
     (hand : next_command left ≡ command ∷ [])
-    (same : SameStore old.facts new.facts)
-    (unspoilt : spoilt ≡ false) where
+    (same : SameStore old.facts new.facts) where
+  -- a command goes on from the commands before to those with it
+  on_command : (log : List Change) → IsLog talk.opening (done_in talk ++ command ∷ []) log → GoesOnTo course left talk log
+  on_command log is =
+      let hand_is : command ∷ [] ≡ hand_of (is_over talk) left = sym (ap (λ (b : Bool). hand_of b left) talking.1 ∙ hand) in
+      ([], subst (λ (h : List Command). IsLog talk.opening (done_in talk ++ h) (log ++ [])) hand_is (subst (λ (l : List Change). IsLog talk.opening (done_in talk ++ command ∷ []) l) (sym (append-nil log)) is))
+
+  -- what holds through a turn of a command
+  pub command_holds : (result : Result Reply StoreFault) → Turns [] (plain_of talk) command old.facts new.facts spoilt old.store new.store old.host new.host result → HoldsSince from course ordered new
+  command_holds result turn =
+      turn_holds from course ordered left talk (asked_in course talk) old new command spoilt result talking same turn
+      (on_command (talking.0.standing.log ++ turn.changes) (log_snoc talk.opening (done_in talk) command talking.0.standing.log turn.changes talking.0.standing.is_log turn.order))
+
   -- a command was done: with these words of the talk, which have that command more
   pub done_tells : (reply : Reply) (left_next : List (List ℕ)) (said : Option (List ℕ)) (answered : List (List ℕ)) (responses : List Response) (ended : Bool)
       → (turn : Turns [] (plain_of talk) command old.facts new.facts spoilt old.store new.store old.host new.host (Ok reply))
+      → spoilt ≡ false
       → HoldsNow new.facts new.store new.host.turn
       → new.moment ≡ moment_after old.moment command
+      → FollowsParts course.pace.queue new.facts new.store
       → done_in (with_words talk answered responses ended) ≡ done_in talk ++ command ∷ []
       → IsTalk (with_words talk answered responses ended) course left_next
-      → PartsThrough talk.opening answered responses (parts_with None) new.facts.parts
+      → HasMoved course.pace talk.opening answered responses (asked_in course talk) new.facts.parts
       → said ≡ and_then_said course.said (text_of (with_words talk answered responses ended))
-      → IsTelling from course ordered left_next (with_words talk answered responses ended) new said
-  done_tells reply left_next said answered responses ended turn now moment done is_talk moved says =
+      → IsTelling from course ordered left_next (with_words talk answered responses ended) (asked_in course talk) new said
+  done_tells reply left_next said answered responses ended turn unspoilt now moment follows done is_talk moved says =
       let next = with_words talk answered responses ended in
       let so = talking.0 in
       let plain = talk.opening in
@@ -185,8 +202,7 @@ module _ (from : HostState) (course : Course) (ordered : Bool) (left : List (Lis
       (record { content = turn.did.content; shows = turn.shows; promised = turn.promised }) now.fits in
       let standing = standing_at plain (done_in talk ++ command ∷ []) (done_in next) course.synced ordered new.facts so.base new.store new.host.turn (sym done) more.0 in
       let len : length standing.0.log ≡ length so.standing.log + length turn.changes = ap (λ (l : List Change). length l) (standing.1 ∙ more.1) ∙ length-append so.standing.log turn.changes in
-      let files : sum_by files_by (done_in next) ≡ sum_by files_by (done_in talk) + files_by command =
-      ap (λ (l : List Command). sum_by files_by l) done ∙ sum_by-append files_by (done_in talk) (command ∷ []) ∙ ap (λ (n : ℕ). sum_by files_by (done_in talk) + n) (sum_by-cons files_by command [] ∙ omega arith) in
+      let files : sum_by files_by (done_in next) ≡ sum_by files_by (done_in talk) + files_by command = ap (λ (l : List Command). sum_by files_by l) done ∙ sum_by_push files_by (done_in talk) command in
       record {
         is_talk = is_talk;
         says = says;
@@ -197,43 +213,56 @@ module _ (from : HostState) (course : Course) (ordered : Bool) (left : List (Lis
         standing = standing.0;
         moment = ap (λ (l : List Command). (plain_after_all plain l).moment) done ∙ ap (λ (p : Plain). p.moment) (plain_after_all-append plain (done_in talk) (command ∷ []))
             ∙ ap (λ (m : ℕ). moment_after m command) so.moment ∙ sym moment;
+        follows = follows;
         parts = moved;
         numbers = numbered_by (length so.standing.log + length turn.changes) (length standing.0.log) (Some talk.first) new.facts.numbers (sym len)
             (numbered_then (length so.standing.log) (length turn.changes) talk.first old.facts.numbers new.facts.numbers so.numbers turn.did.numbers);
         drawn = omega (arith, so.drawn, turn.did.drawn, len);
         made = omega (arith, so.made, turn.did.made, len, files);
-        holds = turn_holds from course ordered left talk old new command spoilt (Ok reply) talking hand same turn;
+        holds = command_holds (Ok reply) turn;
       }
 
-  -- a command was refused, and changed nothing
-  pub refused_tells : (turn : Turns [] (plain_of talk) command old.facts new.facts spoilt old.store new.store old.host new.host (Err fault.Memory))
-      → new.moment ≡ old.moment
-      → new.facts.parts ≡ old.facts.parts
-      → IsTalking from course ordered left talk new
-  refused_tells turn moment parts =
-      let so = talking.0 in
-      let plain = talk.opening in
-      let kept = turn.did.refused refl unspoilt in
-      let standing = refused_one plain (done_in talk) course.synced ordered old.facts new.facts so.base old.store new.store old.host.turn new.host.turn so.standing same turn.did.others.images.later kept in
-      let len : length standing.0.log ≡ length so.standing.log = ap (λ (l : List Change). length l) standing.1 in (
-        record {
-          is_talk = so.is_talk;
-          says = quiet old.host new.host new.host.turn turn.did.others.images.later (omega arith) turn.did.silent ∙ so.says;
-          stands = turn.did.stands unspoilt;
-          sound = turn.did.sound so.sound;
-          base = so.base;
-          opening = so.opening;
-          standing = standing.0;
-          moment = so.moment ∙ sym moment;
-          parts = subst (λ (b : List Row). PartsThrough talk.opening talk.answered talk.responses (parts_with None) b) (sym parts) so.parts;
-          numbers = numbered_by (length so.standing.log + 0) (length standing.0.log) (Some talk.first) new.facts.numbers (omega (arith, len))
-              (numbered_then (length so.standing.log) 0 talk.first old.facts.numbers new.facts.numbers so.numbers kept.numbers.numbers);
-          drawn = omega (arith, so.drawn, kept.numbers.drawn, len);
-          made = omega (arith, so.made, kept.numbers.made, len);
-          holds = turn_holds from course ordered left talk old new command spoilt (Err fault.Memory) talking hand same turn;
-        },
-        talking.1,
-      )
+-- Nothing was changed but the parts: with these words of the talk, which have no command more.
+pub kept_tells : (from : HostState) (course : Course) (ordered : Bool) (left left_next : List (List ℕ)) (talk : Talk) (taken taken_next : ℕ) (old new : View) (said_old said : Option (List ℕ))
+    (answered : List (List ℕ)) (responses : List Response) (ended : Bool) (files : ℕ)
+    → (so : IsTelling from course ordered left talk taken old said_old)
+    → SameStore old.facts new.facts
+    → old.host.turn ≤ new.host.turn
+    → KeepsBy old.facts old.host.turn new.host.turn (plain_of talk).moment old.store new.store []
+    → IsContentAfter old.facts (plain_of talk).moment new.host.turn [] old.store new.store
+    → IsNumbered 0 old.facts.numbers new.facts.numbers → new.facts.drawn ≤ old.facts.drawn
+    → new.facts.made ≤ old.facts.made + files → files_by_steps taken_next ≡ files_by_steps taken + files
+    → new.store.stands → new.store.sound → new.moment ≡ old.moment
+    → FollowsParts course.pace.queue new.facts new.store
+    → HoldsSince from course ordered new
+    → done_in (with_words talk answered responses ended) ≡ done_in talk
+    → IsTalk (with_words talk answered responses ended) course left_next
+    → HasMoved course.pace talk.opening answered responses taken_next new.facts.parts
+    → said ≡ and_then_said course.said (text_of (with_words talk answered responses ended))
+    → IsTelling from course ordered left_next (with_words talk answered responses ended) taken_next new said
+kept_tells from course ordered left left_next talk taken taken_next old new said_old said answered responses ended files so same later keeps content numbers drawn made more stands sound moment follows holds done is_talk moved says =
+    let next = with_words talk answered responses ended in
+    let plain = talk.opening in
+    let kept = kept_one plain (done_in talk) course.synced ordered old.facts new.facts so.base old.store new.store old.host.turn new.host.turn so.standing same later keeps content in
+    let standing = standing_at plain (done_in talk) (done_in next) course.synced ordered new.facts so.base new.store new.host.turn (sym done) kept.0 in
+    let len : length standing.0.log ≡ length so.standing.log = ap (λ (l : List Change). length l) (standing.1 ∙ kept.1) in
+    record {
+      is_talk = is_talk;
+      says = says;
+      stands = stands;
+      sound = sound;
+      base = so.base;
+      opening = so.opening;
+      standing = standing.0;
+      moment = ap (λ (l : List Command). (plain_after_all plain l).moment) done ∙ so.moment ∙ sym moment;
+      follows = follows;
+      parts = moved;
+      numbers = numbered_by (length so.standing.log + 0) (length standing.0.log) (Some talk.first) new.facts.numbers (omega (arith, len))
+          (numbered_then (length so.standing.log) 0 talk.first old.facts.numbers new.facts.numbers so.numbers numbers);
+      drawn = omega (arith, so.drawn, drawn, len);
+      made = omega (arith, so.made, made, more, len, ap (λ (l : List Command). sum_by files_by l) done);
+      holds = holds;
+    }
 
 -- a call that leaves every file leaves those of a store
 pub leaves_all : (a b : HostState) (owns : FileName → Bool) (which : Bool) → SameFiles a.files b.files → Moves a b SameFiles → Leaves owns which a b
@@ -242,8 +271,8 @@ leaves_all a b owns which files moves = record {
   images = weaker a b SameFiles (SameWhere owns which) moves (λ d m left same name is. same name);
 }
 
-module _ (from : HostState) (course : Course) (ordered : Bool) (left : List (List ℕ)) (talk : Talk) (bytes : List ℕ) (old new : View)
-    (hand : IsInHand from course ordered left talk bytes old)
+module _ (from : HostState) (course : Course) (ordered : Bool) (left : List (List ℕ)) (talk : Talk) (taken : ℕ) (bytes : List ℕ) (old new : View)
+    (hand : IsInHand from course ordered left talk taken bytes old)
     (same : new.facts ≡ old.facts)
     (carries : Carries old.host.turn new.host.turn old.store new.store) where
   back : (t : ℕ) (key : List ℕ) (r : Reading) (mark : ℕ) → t ≤ old.host.turn → t ≤ new.host.turn → new.store.may t key r mark → old.store.may t key r mark
@@ -295,7 +324,7 @@ module _ (from : HostState) (course : Course) (ordered : Bool) (left : List (Lis
   }
 
   -- the answer was said
-  pub said_tells : Said bytes old.host new.host (Ok tt) → new.moment ≡ old.moment → IsTelling from course ordered left talk new (new.host.said new.host.turn)
+  pub said_tells : Said bytes old.host new.host (Ok tt) → new.moment ≡ old.moment → IsTelling from course ordered left talk taken new (new.host.said new.host.turn)
   said_tells said moment =
       let at = carried talk.opening (done_in talk) course.synced ordered old.facts hand.base old.store new.store old.host.turn new.host.turn (omega (arith, said.ok.ok)) carries hand.standing in
       let len : length at.0.log ≡ length hand.standing.log = ap (λ (l : List Change). length l) at.1 in
@@ -310,7 +339,8 @@ module _ (from : HostState) (course : Course) (ordered : Bool) (left : List (Lis
         opening = hand.opening;
         standing = standing.0;
         moment = hand.moment ∙ sym moment;
-        parts = subst (λ (f : StoreFacts). PartsThrough talk.opening talk.answered talk.responses (parts_with None) f.parts) (sym same) hand.parts;
+        follows = subst (λ (f : StoreFacts). FollowsParts course.pace.queue f new.store) (sym same) (follows_later course.pace.queue old.facts old.store hand.follows old.host.turn new.host.turn new.store carries);
+        parts = subst (λ (f : StoreFacts). HasMoved course.pace talk.opening talk.answered talk.responses taken f.parts) (sym same) hand.parts;
         numbers = numbered_by (length hand.standing.log) (length standing.0.log) (Some talk.first) new.facts.numbers (sym standing.1)
             (subst (λ (f : StoreFacts). IsNumbered (length hand.standing.log) (Some talk.first) f.numbers) (sym same) hand.numbers);
         drawn = omega (arith, hand.drawn, standing.1, ap_drawn);

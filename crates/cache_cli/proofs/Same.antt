@@ -10,7 +10,7 @@ use Rattle.cache_model.specs.Images.{log_name, IsCounted, IsSound, HasEntry, IsM
 use Rattle.cache_model.specs.Numbers.{Opens, IsNextSequence, IsNextFile}
 use Rattle.cache_model.specs.Plain.{Plain}
 use Rattle.cache_disk.specs.State.{SameFiles}
-use Rattle.soft_index.specs.Opening.{IsFirstDamageOf}
+use Rattle.rebuild.specs.Listing.{IsFirstDamageOf}
 
 pub same_back : (a b : Image) → SameFiles a b → SameFiles b a
 same_back a b same name = sym (same name)

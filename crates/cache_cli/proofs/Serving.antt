@@ -1,6 +1,8 @@
 -- The run of the whole program, by what the run over its store told.
-use Rattle.std.proofs.Common.{◌≡◌, ◌⊎◌, inl, inr, ⊎_elim, ℕ, ◌-◌, ◌^◌, ◌≤◌, ◌<◌, Bool, true, false, List, [], ◌∷◌, ◌++◌, take, length, Option, Some, None, Result, Ok, Err, refl, sym, ◌∙◌, ap, subst, arith}
-use Rattle.std.specs.Prelude.{max}
+use Rattle.std.proofs.Common.{◌≡◌, ◌⊎◌, inl, inr, ⊎_elim, ℕ, ◌+◌, ◌-◌, ◌^◌, ◌≤◌, ◌<◌, Bool, true, false, List, [], ◌∷◌, ◌++◌, take, length, Option, Some, None, Result, Ok, Err, refl, sym, ◌∙◌, ap, subst, arith}
+use Rattle.std.specs.Prelude.{max, min, is_some}
+use Rattle.std.specs.Fn.{Shared}
+use denote.Ref.{Bor}
 use Rattle.std.proofs.lemmas.Bool.{cases_lt}
 use Rattle.cache_model.specs.declared.entries.Entry.{Entry}
 use Rattle.cache_model.specs.declared.faults.Damage.{Damage}
@@ -24,29 +26,30 @@ use Rattle.cache_model.proofs.Existing.{mark_exists, mark_is_single}
 use Rattle.cache_disk.specs.State.{HostState, SameFiles, Stands}
 use Rattle.cache_disk.specs.Calls.{AllLeft, and_then_said}
 use Rattle.store_trait.specs.Meaning.{Reading, Content, Row, Numbers, seen, StoreFacts, StoreState, read_in}
-use Rattle.store_trait.specs.Keeping.{Leaves, IsSettled}
+use Rattle.store_trait.specs.Keeping.{Leaves, IsSettled, SameStore}
 use Rattle.store_trait.specs.Calls.{IsReady}
 use Rattle.store_trait.proofs.Runs.{leaves_then}
 use Rattle.cache_script.specs.Damages.{damage_line}
 use Rattle.data_file.specs.declared.appender.Appender.{Appender}
-use Rattle.soft_index.specs.declared.log_store.LogStore.{LogStore}
-use Rattle.soft_index.specs.Index.{IsRead, IsStarted}
-use Rattle.soft_index.specs.Opening.{IsFirstDamageOf}
-use Rattle.soft_index.specs.Store.{AreInRange as IsInRangeOfStore, HasReading, row_of, current_of, next_file, is_spent, owns_file, StepsBy}
+use Rattle.soft_index.specs.declared.soft_index.SoftIndex.{SoftIndex}
+use Rattle.soft_index.specs.Index.{IsRead, IsStarted, index_facts, index_means, log_of}
+use Rattle.rebuild.specs.Listing.{IsFirstDamageOf}
+use Rattle.soft_index.specs.Store.{AreInRange as IsInRangeOfStore, HasReading, MakesRoom, Queues, row_of, current_of, next_file, log_facts, owns_file, StepsBy}
 use Rattle.cache_session.specs.declared.session.Session.{Session}
 use Rattle.cache_session.specs.Changing.{of_key}
 use Rattle.cache_session.specs.Turns.{store_of, moment_of, is_broken, IsFit}
 use Rattle.cache_cli.specs.Fitting.{entry_of_reading}
 use Rattle.cache_cli.specs.Talk.{Course, FitsTalkTogether, HoldsAtTurn, HoldsTogetherAtTurn, done_in, is_over, hand_of}
-use Rattle.cache_cli.specs.Parts.{parts_with, ActorMoves}
+use Rattle.cache_cli.specs.Parts.{Parts, rows_of, no_parts, ChangeMoves, IndexingMoves, ActorMoves, RoomMoves, RowsMove, FollowsParts}
 use Rattle.cache_cli.specs.Run.{View, view, view_by, TellsAt, HoldsSince, EndsSaying, EndsAtSpent, EndsBy}
 use Rattle.cache_cli.specs.Ends.{EndsSpent, Ends, EndsRefused}
 use Rattle.cache_cli.specs.Opening.{Begins, Finished}
-use Rattle.cache_cli.specs.Serving.{course_by, IsStill, IsOpenedFrom, Serves, TellsDamage, HoldsTogetherFrom}
+use Rattle.cache_cli.specs.Serving.{queue_of, course_by, IsStill, IsOpenedFrom, Serves, TellsDamage, HoldsTogetherFrom}
 use Rattle.cache_cli.proofs.Same.{same_then, same_back, records_same, mark_same, sound_same, next_sequence_same, next_file_same}
 use Rattle.cache_cli.proofs.Contents.{opening_of, entry_read, content_exists}
 use Rattle.cache_cli.proofs.Logs.{log_of_key}
 use Rattle.cache_cli.proofs.Standing.{front_within}
+use Rattle.cache_cli.proofs.Moving.{rows_stay}
 use Rattle.cache_cli.proofs.Running.{leaves_all}
 
 -- two steps that leave all files
@@ -220,6 +223,67 @@ finished_early course ordered mid now ended silent is finished = ⊎_elim (λ sa
 pub others_all : (from mid to : HostState) (owns : FileName → Bool) → IsRead from mid → Leaves owns false mid to → Leaves owns false from to
 others_all from mid to owns read leaves = leaves_then owns false from mid to (leaves_all from mid owns false read.files read.images) leaves
 
+-- The store moves its parts by the rules of one with a queue.
+
+abbrev first_current : List Row → Option ℕ
+first_current [] = None
+first_current (row ∷ rows) = row.current
+
+abbrev first_queued : List Row → ℕ
+first_queued [] = 0
+first_queued (row ∷ rows) = row.queued
+
+store_moves : (queue : ℕ) (rows next : List Row) → Queues queue rows next → RowsMove queue (ChangeMoves queue) rows next
+store_moves queue rows next moves = λ a is within.
+    let queued : a.queued ≡ moves.0 = ap first_queued (sym is ∙ moves.3) in (
+      record { queued = min (moves.0 + 1) queue; current = Some moves.2 },
+      moves.4,
+      omega arith,
+      record { queued = ap (λ (n : ℕ). min (n + 1) queue) (sym queued); current = refl },
+    )
+
+-- one request less
+one_less : (a : Parts) (q : ℕ) (c : Option ℕ) (next : List Row) → rows_of a ≡ row_of (q + 1) c → next ≡ row_of q c → (next ≡ rows_of (record { queued = a.queued - 1; current = a.current })) × (a.queued ≡ q + 1)
+one_less a q c next is after =
+    let queued : a.queued ≡ q + 1 = ap first_queued is in
+    let current : a.current ≡ c = ap first_current is in
+    let less : q ≡ a.queued - 1 = omega (arith, queued) in
+    (after ∙ ap (λ (n : ℕ). row_of n c) less ∙ ap (λ (d : Option ℕ). row_of (a.queued - 1) d) (sym current), queued)
+
+store_room : (queue : ℕ) (rows next : List Row) → MakesRoom queue rows next → RowsMove queue (RoomMoves queue) rows next
+store_room queue rows next (inl same) = λ a is within. (a, same ∙ is, within, inl refl)
+store_room queue rows next (inr room) = λ a is within.
+    let less = one_less a room.0 room.1 next (sym is ∙ room.3) room.4 in
+    (record { queued = a.queued - 1; current = a.current }, less.0, omega (arith, within), inr (omega (arith, less.1, room.2), (omega (arith, less.1), refl)))
+
+store_steps : (queue : ℕ) (kind : StepKind) (turned : Turned) (rows next : List Row) → StepsBy kind turned rows next → RowsMove queue (ActorMoves kind turned) rows next
+store_steps queue Rotate Done rows next steps = λ a is within.
+    let current : a.current ≡ Some steps.1 = ap first_current (sym is ∙ steps.2) in
+    let queued : a.queued ≡ steps.0 = ap first_queued (sym is ∙ steps.2) in (
+      record { queued = a.queued; current = None },
+      steps.3 ∙ ap (λ (n : ℕ). row_of n None) (sym queued),
+      within,
+      (ap is_some current, refl),
+    )
+store_steps queue Rotate Idle rows next steps = λ a is within. (a, steps.2 ∙ is, within, (ap first_current (sym is ∙ steps.1), refl))
+store_steps queue Index Done rows next steps = λ a is within.
+    let less = one_less a steps.0 steps.1 next (sym is ∙ steps.2) steps.3 in
+    (record { queued = a.queued - 1; current = a.current }, less.0, omega (arith, within), (omega (arith, less.1), refl))
+store_steps queue Index Idle rows next steps = λ a is within. (a, steps.2 ∙ is, within, (ap first_queued (sym is ∙ steps.1), refl))
+store_steps queue Flush turned rows next steps = λ a is within. (a, steps.1 ∙ is, within, (steps.0, refl))
+store_steps queue Compact turned rows next steps = λ a is within. (a, steps.1 ∙ is, within, (steps.0, refl))
+store_steps queue Evict turned rows next steps = λ a is within. (a, steps.1 ∙ is, within, (steps.0, refl))
+store_steps queue Reap turned rows next steps = λ a is within. (a, steps.1 ∙ is, within, (steps.0, refl))
+
+-- a store that was opened follows the rules of its settings
+pub started_follows : (files : Image) (settings : Settings) (facts : StoreFacts) (state : StoreState) (mark : ℕ) → IsStarted files settings facts state mark → FollowsParts (queue_of settings) facts state
+started_follows files settings facts state mark started = record {
+  moves = λ change rows next moves. store_moves settings.queue rows next (started.moves change rows next moves);
+  empties = λ rows next same. rows_stay settings.queue rows next (started.empties rows next same);
+  room = λ rows next room. store_room settings.queue rows next (started.room rows next room);
+  steps = λ kind turned rows next steps. store_steps settings.queue kind turned rows next (started.steps kind turned rows next steps);
+}
+
 -- how it begins
 
 -- a key reads the same where the same records count
@@ -251,16 +315,21 @@ started_same a b settings facts state mark same started =
       numbers = (started.numbers.0, started.numbers.1, next_sequence_same a b records started.numbers.0.sequence started.numbers.2, next_file_same a b same started.numbers.0.file started.numbers.3);
       bits = started.bits;
       firm = started.firm;
+      drawn = started.drawn;
+      made = started.made;
       parts = started.parts;
+      moves = started.moves;
+      empties = started.empties;
+      room = started.room;
+      steps = started.steps;
     }
 
 pub begins : (settings : Settings) (from mid : HostState) (given moment mark : ℕ) (lines : List (List ℕ)) (facts : StoreFacts) (state : StoreState)
     → (opened : IsOpenedFrom settings from mid facts state mark)
-    → facts.drawn ≤ opened.started.numbers.0.sequence → facts.made ≤ opened.started.numbers.0.file
     → state.sound → facts.ordered ≡ true
     → moment ≡ max given mark
     → Begins (course_by settings from given lines) true (record { facts = facts; store = state; host = mid; moment = moment })
-begins settings from mid given moment mark lines facts state opened drawn made sound ordered is =
+begins settings from mid given moment mark lines facts state opened sound ordered is =
     let started = opened.started in
     let plain = opening_of state.content moment in
     record {
@@ -277,7 +346,7 @@ begins settings from mid given moment mark lines facts state opened drawn made s
         file = started.numbers.3;
         split = refl;
         answers = tt;
-        parts = (parts_with None, refl);
+        parts = (0, no_parts, (0, omega arith, omega arith, refl));
         whole = λ ended. absurd (false_true ended);
       };
       silent = read_said from mid opened.read;
@@ -287,8 +356,9 @@ begins settings from mid given moment mark lines facts state opened drawn made s
       settled = opened.settled.each;
       moment = plain.2;
       numbers = started.numbers.1;
-      drawn = drawn;
-      made = made;
+      drawn = started.drawn;
+      made = started.made;
+      follows = started_follows from.files settings facts state mark started;
       parts = started.parts;
       firm = started.firm;
       is_ordered = ordered;
@@ -296,27 +366,6 @@ begins settings from mid given moment mark lines facts state opened drawn made s
   where
     false_true : false ≡ true → ⊥
     false_true h = cc
-
--- no number of a store that was opened is above the next ones
-pub sequence_le : (n m : Numbers) → Some n ≡ Some m → n.sequence ≤ m.sequence
-sequence_le n m same = omega (arith, ap (λ (x : Numbers). x.sequence) (same_some n m same))
-  where
-    same_some : (x y : Numbers) → Some x ≡ Some y → x ≡ y
-    same_some x y h = cc
-
-abbrev first_current : List Row → Option ℕ
-first_current [] = None
-first_current (row ∷ rows) = row.current
-
-some_none : (n : ℕ) → Some n ≡ None → ⊥
-some_none n h = cc
-
-pub file_le : (log : Option Appender) (number : ℕ) (n m : Numbers) → row_of (current_of log number) ≡ row_of None → n.file ≡ number → Some n ≡ Some m → next_file log number ≤ m.file
-file_le None number n m parts is same = omega (arith, ap (λ (x : Numbers). x.file) (same_some n m same), is)
-  where
-    same_some : (x y : Numbers) → Some x ≡ Some y → x ≡ y
-    same_some x y h = cc
-file_le (Some log) number n m parts is same = absurd (some_none number (ap first_current parts))
 
 -- a directory that is damaged isn't one that a run may begin on
 pub never_damaged : (from : HostState) (to : HostState) (course : Course) (damage : Damage) → from.left from.turn from.files → IsFirstDamageOf from.files damage → HoldsTogetherFrom from to course
@@ -359,8 +408,8 @@ refused_damage mid to damage status.Spent tells = absurd tells
 refused_damage mid to damage status.LinesSpent tells = absurd tells
 
 -- a number of the store is spent at its end alone
-pub index_spent : (store : LogStore) (s : Spent) → is_spent store s → (s ≡ Sequence (2 ^ 62)) ⊎ (s ≡ Files (2 ^ 32 - 1))
-index_spent store s = ⊎_elim (λ sequence. inl (sequence.0 ∙ ap (λ (n : ℕ). Sequence n) sequence.1)) (λ files. inr files.0)
+pub index_spent : {F : Type 0} (store : SoftIndex F) (host : HostState) (s : Spent) → (index_means store host).spent s → (s ≡ Sequence (2 ^ 62)) ⊎ (s ≡ Files (2 ^ 32 - 1))
+index_spent store host s = ⊎_elim (λ sequence. inl (sequence.0 ∙ ap (λ (n : ℕ). Sequence n) sequence.1)) (λ files. inr files.0)
 
 -- a session over a store that was opened
 
@@ -462,14 +511,14 @@ opened_by settings from mid facts state mark read started settled = record { rea
 
 -- the store's own ranges are among those of all settings
 pub store_in_range : (settings : Settings) → AreInRange settings → IsInRangeOfStore settings
-store_in_range settings range = record { file_size = range.file_size.1; bits = range.hash_bits }
+store_in_range settings range = record { file_size = range.file_size.1; bits = range.hash_bits; queue = range.queue }
 
--- the store's steps are those of a talk
-pub store_steps : (kind : StepKind) (turned : Turned) (a b : List Row) → StepsBy kind turned a b → ActorMoves kind turned a b
-store_steps Rotate Done a b steps = steps
-store_steps Rotate Idle a b steps = steps
-store_steps Index turned a b steps = steps
-store_steps Flush turned a b steps = steps
-store_steps Compact turned a b steps = steps
-store_steps Evict turned a b steps = steps
-store_steps Reap turned a b steps = steps
+module _ {F : Type 0} (g : Shared F (Bor (List ℕ) × Unit {0}) Bool) where
+  -- no call changes by what rules it does
+  pub follows_on : (queue : ℕ) (store next : SoftIndex F) (host later : HostState) → SameStore (index_facts g store) (index_facts g next) → FollowsParts queue (index_facts g store) (index_means store host) → FollowsParts queue (index_facts g next) (index_means next later)
+  follows_on queue store next host later same follows = record {
+    moves = λ change rows after moves. follows.moves change rows after ((same.moves change rows after).0 moves);
+    empties = λ rows after empties. follows.empties rows after ((same.empties rows after).0 empties);
+    room = λ rows after room. follows.room rows after ((same.room rows after).0 room);
+    steps = follows.steps;
+  }

@@ -15,7 +15,7 @@ use Rattle.store_trait.specs.Meaning.{Reading, Content, read_in, seen, IsAlike, 
 use Rattle.store_trait.specs.Keeping.{SameStore, IsOnly, Carries}
 use Rattle.store_trait.proofs.Alike.{alike_sym, alike_trans, alike_later, alike_weaker, alike_seen}
 use Rattle.cache_session.specs.Changing.{after_all, of_key, IsOrder, Shows, has_some}
-use Rattle.cache_session.specs.Turns.{KeepsBy, IsContentAfter, IsUnchanged, promises, is_settling}
+use Rattle.cache_session.specs.Turns.{KeepsBy, IsContentAfter, promises, is_settling}
 use Rattle.cache_session.proofs.Changing.{read_after, after_all-append, of_key-append, reads_still, after_alike}
 use Rattle.cache_session.proofs.Keeping.{behind}
 use Rattle.cache_session.proofs.Shown.{last_seen}
@@ -295,23 +295,24 @@ done_one plain done command synced orderly g h base s t from to changes so same 
           alike = fit.alike;
         }
 
--- a command was refused
-pub refused_one : (plain : Plain) (done : List Command) (synced orderly : Bool) (g h : StoreFacts) (base : Content) (s t : StoreState) (from to : ℕ)
+-- nothing was changed
+pub kept_one : (plain : Plain) (done : List Command) (synced orderly : Bool) (g h : StoreFacts) (base : Content) (s t : StoreState) (from to : ℕ)
     → (so : Standing plain done synced orderly g base s from)
     → SameStore g h
     → from ≤ to
-    → IsUnchanged g h from to (plain_after_all plain done).moment s t
+    → KeepsBy g from to (plain_after_all plain done).moment s t []
+    → IsContentAfter g (plain_after_all plain done).moment to [] s t
     → (next : Standing plain done synced orderly h base t to) × (next.log ≡ so.log)
-refused_one plain done synced orderly g h base s t from to so same le left = (
+kept_one plain done synced orderly g h base s t from to so same le keeps content = (
   record {
     log = so.log;
     is_log = so.is_log;
-    kept = λ key. same_log (λ (l : List Change). IsAlike (Unit {0}) m (read_in t.content key) (read_in (after_all l base) key)) (kept_on plain done synced orderly g base s t from to [] so le left.keeps left.content key);
-    at_marks = λ key r mark may. same_log (λ (l : List Change). IsAlike (Unit {0}) mark (read_in t.content key) (read_in (after_all l base) key)) (at_marks_on plain done synced orderly g base s t from to [] so le left.keeps left.content key r mark may);
-    shows = λ key. alike_seen (g.forgets key) m (read_in t.content key) (read_in s.content key) (left.content.kept key) ∙ so.shows key;
-    each = λ key r mark may. same_log (λ (l : List Change). Fit (promised_of synced plain done) l base key r mark) (in_turn plain done synced orderly g base s t from to m [] so refl left.keeps to key r mark le (omega arith) may);
-    whole = λ ordered c mark may. same_log (λ (l : List Change). FitAll (promised_of synced plain done) l base c mark) (in_turn_whole plain done synced orderly g base s t from to m [] so refl left.keeps ordered to c mark le (omega arith) may);
-    settled = λ firm key. only_on plain done synced orderly g base s t from to [] so le left.keeps left.content h same key refl (so.settled firm key);
+    kept = λ key. same_log (λ (l : List Change). IsAlike (Unit {0}) m (read_in t.content key) (read_in (after_all l base) key)) (kept_on plain done synced orderly g base s t from to [] so le keeps content key);
+    at_marks = λ key r mark may. same_log (λ (l : List Change). IsAlike (Unit {0}) mark (read_in t.content key) (read_in (after_all l base) key)) (at_marks_on plain done synced orderly g base s t from to [] so le keeps content key r mark may);
+    shows = λ key. alike_seen (g.forgets key) m (read_in t.content key) (read_in s.content key) (content.kept key) ∙ so.shows key;
+    each = λ key r mark may. same_log (λ (l : List Change). Fit (promised_of synced plain done) l base key r mark) (in_turn plain done synced orderly g base s t from to m [] so refl keeps to key r mark le (omega arith) may);
+    whole = λ ordered c mark may. same_log (λ (l : List Change). FitAll (promised_of synced plain done) l base c mark) (in_turn_whole plain done synced orderly g base s t from to m [] so refl keeps ordered to c mark le (omega arith) may);
+    settled = λ firm key. only_on plain done synced orderly g base s t from to [] so le keeps content h same key refl (so.settled firm key);
     firm = same.firm ∙ so.firm;
     is_ordered = same.ordered ∙ so.is_ordered;
   },

@@ -7,10 +7,11 @@ use Rattle.cache_model.specs.Lines.{lines_of, units_of, units_of_length}
 use Rattle.cache_disk.specs.State.{HostState}
 use Rattle.cache_script.specs.declared.line_reader.LineReader.{LineReader}
 use Rattle.cache_script.specs.LineReader.{unread, units_taken, TakesLine, Exhausts}
-use Rattle.cache_cli.specs.Talk.{Course, Talk, IsTalk}
+use Rattle.cache_cli.specs.Talk.{Course, Talk, IsTalk, asked_in}
 use Rattle.cache_cli.specs.Ends.{EndsTaken}
-use Rattle.cache_cli.specs.Run.{View, HoldsSince, EndsBy, IsTalking, AnswersBy, Answered, LongAnswered, Closed}
-use Rattle.cache_cli.specs.Steps.{IsTalkingOn, StepsBy, Stepped, Ran}
+use Rattle.cache_cli.specs.declared.pump.Pump.{Pump}
+use Rattle.cache_cli.specs.Run.{View, HoldsSince, EndsBy, IsTalking, AnswersBy, Answered, LongAnswered, Closed, Pumped}
+use Rattle.cache_cli.specs.Steps.{IsTalkingOn, HasAnswered, AnswersOn, AnsweredNext, IsPaced, Stepped, Ran}
 use Rattle.cache_cli.proofs.Ending.{says_of}
 
 -- the units of one line more
@@ -29,8 +30,8 @@ module _ (from : HostState) (course : Course) (ordered : Bool) (talk : Talk) (ol
   units_on : units_taken after ≡ units_of (talk.answered ++ line ∷ [])
   units_on = omega (arith, takes.counted, on.units, units-append talk.answered line)
 
-  by_answer : (more : Bool) → AnswersBy more from course ordered (lines_of (unread after rest_new)) (talk.answered ++ line ∷ []) new → StepsBy more from course ordered new after rest_new
-  by_answer true talks = (talks.talk, record { talking = talks.talking; units = units_on ∙ ap units_of (sym talks.answers) })
+  by_answer : (more : Bool) → AnswersBy more from course ordered (lines_of (unread after rest_new)) (talk.answered ++ line ∷ []) (asked_in course talk) new → AnswersOn more from course ordered (asked_in course talk) new after rest_new
+  by_answer true talks = (talks.talk, record { pumping = talks.pumping; due = talks.due; units = units_on ∙ ap units_of (sym talks.answers) })
   by_answer false finished = record {
     talk = finished.talk;
     left = finished.left;
@@ -47,26 +48,24 @@ module _ (from : HostState) (course : Course) (ordered : Bool) (talk : Talk) (ol
       false_true h = cc
 
   -- it was answered
-  pub stepped_line : (result : Result Bool Status) → Answered from course ordered (lines_of (unread after rest_new)) (talk.answered ++ line ∷ []) new result → Stepped from course ordered new after rest_new result
-  stepped_line (Ok more) answered = record { goes = by_answer more answered.goes; ends = tt; holds = answered.holds }
-  stepped_line (Err ended) answered = record { goes = tt; ends = answered.ends; holds = answered.holds }
-
-  -- it was too long, and refused
-  pub stepped_long : Answered from course ordered (lines_of (unread after rest_new)) (talk.answered ++ line ∷ []) new (Ok true) → Stepped from course ordered new after rest_new (Ok true)
-  stepped_long answered = record { goes = by_answer true answered.goes; ends = tt; holds = answered.holds }
+  pub answered_line : (result : Result Bool Status) → Answered from course ordered (lines_of (unread after rest_new)) (talk.answered ++ line ∷ []) (asked_in course talk) new result
+      → AnsweredNext from course ordered (asked_in course talk) new after rest_new result
+  answered_line (Ok more) answered = record { goes = by_answer more answered.goes; ends = tt; holds = answered.holds }
+  answered_line (Err ended) answered = record { goes = tt; ends = answered.ends; holds = answered.holds }
 
 -- a line that is too long was refused, as an answer
-pub long_goes : (from : HostState) (course : Course) (ordered : Bool) (left answered : List (List ℕ)) (now : View) → LongAnswered from course ordered left answered now (Ok tt) → Answered from course ordered left answered now (Ok true)
-long_goes from course ordered left answered now long = record { goes = long.goes; ends = tt; holds = long.holds }
+pub long_goes : (from : HostState) (course : Course) (ordered : Bool) (left answered : List (List ℕ)) (taken : ℕ) (now : View) → LongAnswered from course ordered left answered taken now (Ok tt) → Answered from course ordered left answered taken now (Ok true)
+long_goes from course ordered left answered taken now long = record { goes = long.goes; ends = tt; holds = long.holds }
 
-pub long_ends : (from : HostState) (course : Course) (ordered : Bool) (left answered : List (List ℕ)) (now : View) (ended : Status) → LongAnswered from course ordered left answered now (Err ended) → Answered from course ordered left answered now (Err ended)
-long_ends from course ordered left answered now ended long = record { goes = tt; ends = long.ends; holds = long.holds }
+pub long_ends : (from : HostState) (course : Course) (ordered : Bool) (left answered : List (List ℕ)) (taken : ℕ) (now : View) (ended : Status)
+    → LongAnswered from course ordered left answered taken now (Err ended) → Answered from course ordered left answered taken now (Err ended)
+long_ends from course ordered left answered taken now ended long = record { goes = tt; ends = long.ends; holds = long.holds }
 
 -- the end of the script was answered
-pub stepped_end : (from : HostState) (course : Course) (ordered : Bool) (talk : Talk) (old new : View) (before after : LineReader) (rest_old rest_new : List ℕ)
+pub answered_end : (from : HostState) (course : Course) (ordered : Bool) (talk : Talk) (old new : View) (before after : LineReader) (rest_old rest_new : List ℕ)
     → IsTalkingOn from course ordered talk old before rest_old → units_taken before < 2 ^ 32
-    → Closed from course ordered talk new (Ok tt) → Stepped from course ordered new after rest_new (Ok false)
-stepped_end from course ordered talk old new before after rest_old rest_new on few closed = record {
+    → Closed from course ordered talk new (Ok tt) → AnsweredNext from course ordered (asked_in course talk) new after rest_new (Ok false)
+answered_end from course ordered talk old new before after rest_old rest_new on few closed = record {
   goes = record {
     talk = closed.over.talk;
     left = closed.over.left;
@@ -84,7 +83,7 @@ pub ends_taken : (from : HostState) (course : Course) (ordered : Bool) (talk : T
     → IsTalkingOn from course ordered talk now reader rest → Exhausts (unread reader rest) (units_taken reader)
     → EndsTaken course now.host
 ends_taken from course ordered talk now reader rest on exhausts =
-    let says = says_of from course ordered (lines_of (unread reader rest)) talk now (now.host.said now.host.turn) now.host on.talking.0 refl in
+    let says = says_of from course ordered (lines_of (unread reader rest)) talk (asked_in course talk) now (now.host.said now.host.turn) now.host on.talking.0 refl in
     record {
       talk = talk;
       part = exhausts.line;
@@ -100,6 +99,18 @@ ends_taken from course ordered talk now reader rest on exhausts =
       lacks = exhausts.lacks;
       units = omega (arith, exhausts.spent, on.units);
     }
+
+-- the background steps behind the answer were taken
+pub stepped_on : (from : HostState) (course : Course) (ordered : Bool) (talk : Talk) (taken : ℕ) (mid new : View) (pump : Pump) (reader : LineReader) (rest : List ℕ)
+    → HasAnswered from course ordered talk taken mid reader rest
+    → Pumped from course ordered (lines_of (unread reader rest)) talk (asked_in course talk) new (Ok tt)
+    → IsPaced course (taken + course.pace.pump) pump
+    → Stepped from course ordered new pump reader rest (Ok true)
+stepped_on from course ordered talk taken mid new pump reader rest has pumped paced = record {
+  goes = (talk, record { talking = pumped.goes; units = has.units }, subst (λ (n : ℕ). IsPaced course n pump) (sym has.due) paced);
+  ends = tt;
+  holds = pumped.holds;
+}
 
 -- a run that a step ended
 pub ran_out : (from : HostState) (course : Course) (ordered : Bool) (now : View) (ended : Status) (result : Result (Unit {0}) Status)

@@ -9,11 +9,12 @@ use Rattle.cache_disk.specs.State.{HostState, SameFiles}
 use Rattle.cache_disk.specs.Calls.{and_then_said}
 use Rattle.store_trait.specs.Meaning.{Numbers}
 use Rattle.cache_script.specs.Damages.{damage_line}
-use Rattle.soft_index.specs.Opening.{IsFirstDamageOf}
+use Rattle.rebuild.specs.Listing.{IsFirstDamageOf}
 use Rattle.cache_session.specs.Turns.{files_by}
 use Rattle.cache_cli.specs.Foreign.{IsForeign}
 use Rattle.cache_cli.specs.Fitting.{IsLog}
-use Rattle.cache_cli.specs.Talk.{Course, Talk, IsTalk, text_of, done_in, is_over, next_command}
+use Rattle.cache_cli.specs.Pump.{files_by_steps}
+use Rattle.cache_cli.specs.Talk.{Course, Talk, IsTalk, text_of, done_in, is_over, next_command, asked_in}
 
 -- where there are changes, their numbers and those of their files are within their ends
 abbrev pub IsWithin : Numbers → ℕ → Type 0
@@ -54,9 +55,9 @@ pub record EndsUnsaid (course : Course) (to : HostState) : Type 0 where
   pub before : turn < to.turn
   pub lost : (t : ℕ) → turn < t → t ≤ to.turn → to.said t ≡ None
 
--- A run ended at a command for a change of which a number is at its end: the next sequence number, or that of a file that
--- has to be made. The numbers at the opening and the changes of the commands up to this one add up to no less; a turn of a
--- compaction counts as a change for the file that it may make.
+-- A run ended at a command or a background step for which a number is at its end: the next sequence number, or that of a
+-- file that has to be made. The numbers at the opening and the changes of the commands up to this one add up to no less; a
+-- turn of a compaction counts as a change for the file that it may make, also among the background steps.
 pub record EndsSpent (course : Course) (to : HostState) : Type 0 where
   pub talk : Talk
   pub left : List (List ℕ)
@@ -64,7 +65,7 @@ pub record EndsSpent (course : Course) (to : HostState) : Type 0 where
   pub going : is_over talk ≡ false
   pub log : List Change
   pub is_log : IsLog talk.opening (done_in talk ++ next_command left) log
-  pub spent : (2 ^ 62 ≤ talk.first.sequence + length log) ⊎ (2 ^ 32 - 1 ≤ talk.first.file + length log + sum_by files_by (done_in talk ++ next_command left))
+  pub spent : (2 ^ 62 ≤ talk.first.sequence + length log) ⊎ (2 ^ 32 - 1 ≤ talk.first.file + length log + sum_by files_by (done_in talk ++ next_command left) + files_by_steps (asked_in course talk))
 
 -- A run took as many units of its script as it may, with a part of the line in hand.
 pub record EndsTaken (course : Course) (to : HostState) : Type 0 where

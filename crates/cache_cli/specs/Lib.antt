@@ -6,6 +6,7 @@ pub mod Fitting
 pub mod Foreign
 pub mod Opening
 pub mod Parts
+pub mod Pump
 pub mod Run
 pub mod Saying
 pub mod Serving

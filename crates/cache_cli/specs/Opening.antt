@@ -1,5 +1,5 @@
 -- How a run begins: a store is opened, and nothing was said.
-use Rattle.std.specs.Prelude.{◌≡◌, ◌⊎◌, ℕ, ◌≤◌, Bool, false, List, [], Some, None, Result, OnOk, IfErr}
+use Rattle.std.specs.Prelude.{◌≡◌, ◌⊎◌, ℕ, ◌≤◌, Bool, false, List, [], Some, Result, OnOk, IfErr}
 use Rattle.cache_model.specs.declared.replies.Status.{Status}
 use Rattle.cache_model.specs.Plain.{Plain}
 use Rattle.cache_disk.specs.State.{HostState}
@@ -8,7 +8,7 @@ use Rattle.store_trait.specs.Keeping.{IsOnly}
 use Rattle.cache_cli.specs.Fitting.{IsOpening}
 use Rattle.cache_cli.specs.Talk.{Course, Talk, IsTalk}
 use Rattle.cache_cli.specs.Ends.{EndsWhole}
-use Rattle.cache_cli.specs.Parts.{parts_with}
+use Rattle.cache_cli.specs.Parts.{rows_of, no_parts, FollowsParts}
 use Rattle.cache_cli.specs.Run.{View, EndsSaying, EndsBy, HoldsSince}
 
 -- the talk of a run that said nothing yet
@@ -16,7 +16,7 @@ abbrev pub first_talk : Plain → Numbers → Talk
 first_talk opening first = record { opening = opening; first = first; answered = []; responses = []; ended = false }
 
 -- A session was opened, and nothing was said: it stands for the plain map that the files say, only its content is
--- possible, and it goes on with the next numbers.
+-- possible, and it goes on with the next numbers and without parts.
 pub record Begins (course : Course) (ordered : Bool) (now : View) : Type 0 where
   pub opening : Plain
   pub first : Numbers
@@ -30,7 +30,8 @@ pub record Begins (course : Course) (ordered : Bool) (now : View) : Type 0 where
   pub numbers : now.facts.numbers ≡ Some first
   pub drawn : now.facts.drawn ≤ first.sequence
   pub made : now.facts.made ≤ first.file
-  pub parts : now.facts.parts ≡ parts_with None
+  pub follows : FollowsParts course.pace.queue now.facts now.store
+  pub parts : now.facts.parts ≡ rows_of no_parts
   pub firm : now.facts.firm ≡ course.synced
   pub is_ordered : now.facts.ordered ≡ ordered
 

@@ -10,7 +10,7 @@ use Rattle.cache_model.specs.declared.replies.Reply.{Reply}
 use Rattle.cache_model.specs.Replies.{Response, replies}
 use Rattle.cache_model.specs.Transcript.{IsReply, may_be_refused}
 use Rattle.cache_model.specs.Plain.{Plain, plain_after, plain_reply}
-use Rattle.cache_disk.specs.State.{HostState, Silent}
+use Rattle.cache_disk.specs.State.{HostState}
 use Rattle.cache_disk.specs.Calls.{and_then_said}
 use Rattle.store_trait.specs.Meaning.{Reading, Content, StoreFacts, StoreState}
 use Rattle.store_trait.specs.Keeping.{IsOnly, Leaves}
@@ -19,9 +19,10 @@ use Rattle.cache_session.specs.Changing.{Shows}
 use Rattle.cache_session.specs.declared.session.Session.{Session}
 use Rattle.cache_session.specs.Turns.{store_of, moment_of, promises, files_by, IsContentAfter}
 use Rattle.cache_cli.specs.Fitting.{IsLog, IsOpening, ReadsPrefix, ReadsCut}
-use Rattle.cache_cli.specs.Parts.{parts_with, CommandMoves, PartsThrough}
+use Rattle.cache_cli.specs.Parts.{RowsMove, RoomMoves, CommandMoves, FollowsParts}
+use Rattle.cache_cli.specs.Pump.{files_by_steps, HasMoved}
 use Rattle.cache_cli.specs.Standing.{Standing}
-use Rattle.cache_cli.specs.Talk.{Course, Talk, IsTalk, plain_of, done_in, text_of, is_over, hand_of, next_command}
+use Rattle.cache_cli.specs.Talk.{Course, Talk, IsTalk, plain_of, done_in, text_of, is_over, hand_of, next_command, asked_in}
 use Rattle.cache_cli.specs.Ends.{Says, EndsEarly, EndsUnsaid, EndsTaken}
 
 -- the same talk by other words of it: the same opening, and these lines and answers
@@ -60,9 +61,9 @@ pub record HoldsSince (from : HostState) (course : Course) (ordered : Bool) (now
   pub each : (t : ℕ) (said : List ℕ) → from.turn < t → t ≤ now.host.turn → now.host.said t ≡ Some said → TellsAt course ordered now.store t said
   pub opens : (t : ℕ) → from.turn ≤ t → t ≤ now.host.turn → now.store.opens t
 
--- A session tells a talk, which is what was said by then: its store stands for the plain map after the talk's commands, and
--- its numbers went on by their changes.
-pub record IsTelling (from : HostState) (course : Course) (ordered : Bool) (left : List (List ℕ)) (talk : Talk) (now : View) (said : Option (List ℕ)) : Type 0 where
+-- A session tells a talk, which is what was said by then: its store stands for the plain map after the talk's commands, its
+-- numbers went on by their changes, and its parts moved by its answers and so many background steps.
+pub record IsTelling (from : HostState) (course : Course) (ordered : Bool) (left : List (List ℕ)) (talk : Talk) (taken : ℕ) (now : View) (said : Option (List ℕ)) : Type 0 where
   pub is_talk : IsTalk talk course left
   pub says : said ≡ and_then_said course.said (text_of talk)
   pub stands : now.store.stands
@@ -71,19 +72,24 @@ pub record IsTelling (from : HostState) (course : Course) (ordered : Bool) (left
   pub opening : IsOpening talk.opening base
   pub standing : Standing talk.opening (done_in talk) course.synced ordered now.facts base now.store now.host.turn
   pub moment : (plain_of talk).moment ≡ now.moment
-  pub parts : PartsThrough talk.opening talk.answered talk.responses (parts_with None) now.facts.parts
+  pub follows : FollowsParts course.pace.queue now.facts now.store
+  pub parts : HasMoved course.pace talk.opening talk.answered talk.responses taken now.facts.parts
   pub numbers : IsNumbered (length standing.log) (Some talk.first) now.facts.numbers
   pub drawn : now.facts.drawn ≤ talk.first.sequence + length standing.log
-  pub made : now.facts.made ≤ talk.first.file + length standing.log + sum_by files_by (done_in talk)
+  pub made : now.facts.made ≤ talk.first.file + length standing.log + sum_by files_by (done_in talk) + files_by_steps taken
   pub holds : HoldsSince from course ordered now
 
--- a session talks: its talk isn't over
+-- a session is busy with the background steps behind its last answer, of which so many were taken in all: its talk isn't over
+abbrev pub IsPumping : HostState → Course → Bool → List (List ℕ) → Talk → ℕ → View → Type 0
+IsPumping from course ordered left talk taken now = IsTelling from course ordered left talk taken now (now.host.said now.host.turn) × (is_over talk ≡ false)
+
+-- a session talks: its talk isn't over, and all background steps behind its answers were taken
 abbrev pub IsTalking : HostState → Course → Bool → List (List ℕ) → Talk → View → Type 0
-IsTalking from course ordered left talk now = IsTelling from course ordered left talk now (now.host.said now.host.turn) × (is_over talk ≡ false)
+IsTalking from course ordered left talk now = IsPumping from course ordered left talk (asked_in course talk) now
 
 -- an answer is in hand: with these bytes said, what was said will be this talk
-abbrev pub IsInHand : HostState → Course → Bool → List (List ℕ) → Talk → List ℕ → View → Type 0
-IsInHand from course ordered left talk bytes now = IsTelling from course ordered left talk now (and_then_said (now.host.said now.host.turn) bytes)
+abbrev pub IsInHand : HostState → Course → Bool → List (List ℕ) → Talk → ℕ → List ℕ → View → Type 0
+IsInHand from course ordered left talk taken bytes now = IsTelling from course ordered left talk taken now (and_then_said (now.host.said now.host.turn) bytes)
 
 -- From a say on that failed nothing is told of what was said; before it is as it was.
 pub record IsLost (before now : HostState) : Type 0 where
@@ -96,13 +102,13 @@ abbrev pub EndsSaying : Status → HostState → HostState → Type 0
 EndsSaying ended before now = ((ended ≡ status.SayFailed) × IsLost before now) ⊎ ((ended ≡ status.NoMemory) × (now.said now.turn ≡ before.said before.turn))
 
 -- An answer in hand was said, and the session tells the talk with it, or the run ended.
-pub record Told (from : HostState) (course : Course) (ordered : Bool) (left : List (List ℕ)) (talk : Talk) (before now : View) (result : Result (Unit {0}) Status) : Type 0 where
-  pub goes : OnOk result (IsTelling from course ordered left talk now (now.host.said now.host.turn))
+pub record Told (from : HostState) (course : Course) (ordered : Bool) (left : List (List ℕ)) (talk : Talk) (taken : ℕ) (before now : View) (result : Result (Unit {0}) Status) : Type 0 where
+  pub goes : OnOk result (IsTelling from course ordered left talk taken now (now.host.said now.host.turn))
   pub ends : IfErr result (λ ended. EndsSaying ended before.host now.host)
   pub holds : HoldsSince from course ordered now
 
--- A number is at its end for a change of the command in hand: the numbers at the opening and the changes of the commands
--- up to it add up to no less.
+-- A number is at its end for a change of the command in hand, or for a background step: the numbers at the opening, the
+-- changes of the commands up to it and the background steps add up to no less.
 pub record EndsAtSpent (course : Course) (now : View) : Type 0 where
   pub talk : Talk
   pub left : List (List ℕ)
@@ -113,7 +119,7 @@ pub record EndsAtSpent (course : Course) (now : View) : Type 0 where
   pub number : Spent
   pub spent : now.store.spent number
   pub sequence : (n : ℕ) → number ≡ Sequence n → n ≤ talk.first.sequence + length log
-  pub files : (n : ℕ) → number ≡ Files n → n ≤ talk.first.file + length log + sum_by files_by (done_in talk ++ next_command left)
+  pub files : (n : ℕ) → number ≡ Files n → n ≤ talk.first.file + length log + sum_by files_by (done_in talk ++ next_command left) + files_by_steps (asked_in course talk)
 
 -- how a run ends while its lines are answered
 abbrev pub EndsBy : Status → Course → View → Type 0
@@ -128,34 +134,37 @@ EndsBy status.NoMemory course now = EndsEarly course now.host
 EndsBy status.Spent course now = EndsAtSpent course now
 EndsBy status.LinesSpent course now = EndsTaken course now.host
 
--- With these words of the talk, which have one command more, its answer is in hand.
-abbrev pub TellsMore : HostState → Course → Bool → Talk → Command → View → Type 0
-TellsMore from course ordered talk command now =
+-- With these words of the talk, which have these commands more, its answer is in hand.
+abbrev pub TellsMore : HostState → Course → Bool → Talk → List Command → View → Type 0
+TellsMore from course ordered talk commands now =
     (left : List (List ℕ)) (said : Option (List ℕ)) (answered : List (List ℕ)) (responses : List Response) (ended : Bool)
-    → done_in (with_words talk answered responses ended) ≡ done_in talk ++ command ∷ []
+    → done_in (with_words talk answered responses ended) ≡ done_in talk ++ commands
     → IsTalk (with_words talk answered responses ended) course left
-    → PartsThrough talk.opening answered responses (parts_with None) now.facts.parts
+    → HasMoved course.pace talk.opening answered responses (asked_in course talk) now.facts.parts
     → said ≡ and_then_said course.said (text_of (with_words talk answered responses ended))
-    → IsTelling from course ordered left (with_words talk answered responses ended) now said
+    → IsTelling from course ordered left (with_words talk answered responses ended) (asked_in course talk) now said
 
 -- what a command that was done, or refused for want of memory, leaves
 abbrev pub DoesBy : Option Reply → HostState → Course → Bool → List (List ℕ) → Talk → Command → View → View → Type 0
 DoesBy (Some reply) from course ordered left talk command old now =
-    IsReply command (plain_reply [] (plain_of talk) command) (replies reply) × TellsMore from course ordered talk command now × (now.host.said now.host.turn ≡ old.host.said old.host.turn)
-    × CommandMoves (plain_of talk) command reply old.facts.parts now.facts.parts
-DoesBy None from course ordered left talk command old now = IsTalking from course ordered left talk now × IsTrue (may_be_refused command)
+    IsReply command (plain_reply [] (plain_of talk) command) (replies reply) × TellsMore from course ordered talk (command ∷ []) now
+    × RowsMove course.pace.queue (CommandMoves course.pace.queue (plain_of talk) command reply) old.facts.parts now.facts.parts
+DoesBy None from course ordered left talk command old now =
+    IsTrue (may_be_refused command) × TellsMore from course ordered talk [] now × RowsMove course.pace.queue (RoomMoves course.pace.queue) old.facts.parts now.facts.parts
 
 -- The command in hand was done, or refused for want of memory, or the run ended.
 pub record Does (from : HostState) (course : Course) (ordered : Bool) (left : List (List ℕ)) (talk : Talk) (command : Command) (old now : View) (result : Result (Option Reply) Status) : Type 0 where
   pub goes : IfOk result (λ reply. DoesBy reply from course ordered left talk command old now)
-  pub silent : OnOk result (Silent old.host now.host)
+  pub silent : OnOk result (now.host.said now.host.turn ≡ old.host.said old.host.turn)
   pub ends : IfErr result (λ ended. EndsBy ended course now)
   pub holds : HoldsSince from course ordered now
 
--- A session talks, and these lines were answered.
-pub record TalksOn (from : HostState) (course : Course) (ordered : Bool) (left answered : List (List ℕ)) (now : View) : Type 0 where
+-- A session talks, and these lines were answered. So many background steps were taken, and all those behind the last answer
+-- are due.
+pub record TalksOn (from : HostState) (course : Course) (ordered : Bool) (left answered : List (List ℕ)) (taken : ℕ) (now : View) : Type 0 where
   pub talk : Talk
-  pub talking : IsTalking from course ordered left talk now
+  pub pumping : IsPumping from course ordered left talk taken now
+  pub due : asked_in course talk ≡ taken + course.pace.pump
   pub answers : talk.answered ≡ answered
 
 -- The talk is over, with its end answered or not, and these lines were answered.
@@ -168,13 +177,13 @@ pub record IsFinished (course : Course) (answered : List (List ℕ)) (ended : Bo
   pub ends : talk.ended ≡ ended
 
 -- what an answer leaves: the session talks on, or the talk is over
-abbrev pub AnswersBy : Bool → HostState → Course → Bool → List (List ℕ) → List (List ℕ) → View → Type 0
-AnswersBy true from course ordered left answered now = TalksOn from course ordered left answered now
-AnswersBy false from course ordered left answered now = IsFinished course answered false now
+abbrev pub AnswersBy : Bool → HostState → Course → Bool → List (List ℕ) → List (List ℕ) → ℕ → View → Type 0
+AnswersBy true from course ordered left answered taken now = TalksOn from course ordered left answered taken now
+AnswersBy false from course ordered left answered taken now = IsFinished course answered false now
 
--- A line was answered, or the run ended. These lines are answered and left then.
-pub record Answered (from : HostState) (course : Course) (ordered : Bool) (left answered : List (List ℕ)) (now : View) (result : Result Bool Status) : Type 0 where
-  pub goes : IfOk result (λ more. AnswersBy more from course ordered left answered now)
+-- A line was answered, or the run ended. These lines are answered and left then, and so many background steps were taken.
+pub record Answered (from : HostState) (course : Course) (ordered : Bool) (left answered : List (List ℕ)) (taken : ℕ) (now : View) (result : Result Bool Status) : Type 0 where
+  pub goes : IfOk result (λ more. AnswersBy more from course ordered left answered taken now)
   pub ends : IfErr result (λ ended. EndsBy ended course now)
   pub holds : HoldsSince from course ordered now
 
@@ -186,13 +195,19 @@ pub record IsDone (plain : Plain) (command : Command) (changes : List Change) (f
   pub promised : (key : List ℕ) → promises f.firm plain command key ≡ true → IsOnly g new turn key
 
 -- A line that is too long was refused, or the run ended.
-pub record LongAnswered (from : HostState) (course : Course) (ordered : Bool) (left answered : List (List ℕ)) (now : View) (result : Result (Unit {0}) Status) : Type 0 where
-  pub goes : OnOk result (TalksOn from course ordered left answered now)
+pub record LongAnswered (from : HostState) (course : Course) (ordered : Bool) (left answered : List (List ℕ)) (taken : ℕ) (now : View) (result : Result (Unit {0}) Status) : Type 0 where
+  pub goes : OnOk result (TalksOn from course ordered left answered taken now)
   pub ends : IfErr result (λ ended. EndsBy ended course now)
   pub holds : HoldsSince from course ordered now
 
 -- The end of the script was answered, or the run ended.
 pub record Closed (from : HostState) (course : Course) (ordered : Bool) (talk : Talk) (now : View) (result : Result (Unit {0}) Status) : Type 0 where
   pub over : OnOk result (IsFinished course talk.answered true now)
+  pub ends : IfErr result (λ ended. EndsBy ended course now)
+  pub holds : HoldsSince from course ordered now
+
+-- Background steps were taken, so many in all by then, or the run ended.
+pub record Pumped (from : HostState) (course : Course) (ordered : Bool) (left : List (List ℕ)) (talk : Talk) (taken : ℕ) (now : View) (result : Result (Unit {0}) Status) : Type 0 where
+  pub goes : OnOk result (IsPumping from course ordered left talk taken now)
   pub ends : IfErr result (λ ended. EndsBy ended course now)
   pub holds : HoldsSince from course ordered now

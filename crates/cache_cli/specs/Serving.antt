@@ -16,9 +16,20 @@ use Rattle.cache_cli.specs.Ends.{Ends}
 use Rattle.cache_cli.specs.Run.{IsLost}
 use Rattle.cache_cli.specs.Talk.{Course, HoldsThroughout, HoldsTogether}
 
+-- how many requests the store's queue takes
+abbrev pub queue_of : Settings → ℕ
+queue_of settings = settings.queue
+
 -- a run by these settings that begins on a host, from a moment on, with these lines
 abbrev pub course_by : Settings → HostState → ℕ → List (List ℕ) → Course
-course_by settings from given lines = record { files = from.files; said = from.said from.turn; given = given; lines = lines; synced = settings.sync_writes }
+course_by settings from given lines = record {
+  files = from.files;
+  said = from.said from.turn;
+  given = given;
+  lines = lines;
+  synced = settings.sync_writes;
+  pace = record { queue = queue_of settings; pump = settings.pump };
+}
 
 -- where no image that might be left at the beginning is damaged, each image since holds
 abbrev pub HoldsFrom : HostState → HostState → Course → Type 0

@@ -14,19 +14,21 @@ use Rattle.cache_model.specs.Numbers.{Opens, IsNextSequence, IsNextFile}
 use Rattle.cache_model.specs.Prefix.{FitsPrefix}
 use Rattle.cache_disk.specs.State.{HostState}
 use Rattle.cache_disk.specs.Calls.{and_then_said}
-use Rattle.store_trait.specs.Meaning.{Numbers, Row}
+use Rattle.store_trait.specs.Meaning.{Numbers}
 use Rattle.cache_session.specs.Changing.{of_key}
 use Rattle.cache_cli.specs.Fitting.{promised_of, IsLog}
-use Rattle.cache_cli.specs.Parts.{parts_with, PartsThrough}
+use Rattle.cache_cli.specs.Parts.{Parts, no_parts}
+use Rattle.cache_cli.specs.Pump.{Pace, steps_asked, PartsThrough}
 
 -- What a run is about: the files as they read when it began, what was said by then, the moment that was given, the lines of
--- the script, and whether each change is synced before it is answered.
+-- the script, whether each change is synced before it is answered, and how the store works beside its answers.
 pub record Course : Type 0 where
   pub files : Image
   pub said : Option (List ℕ)
   pub given : ℕ
   pub lines : List (List ℕ)
   pub synced : Bool
+  pub pace : Pace
 
 -- A talk: the plain map at the opening, the numbers of the first change, the lines that were answered so far, their
 -- answers, and whether the end of the script was answered.
@@ -63,15 +65,20 @@ text_of talk = opened_line talk.opening.moment ++ response_lines talk.responses 
 abbrev pub is_over : Talk → Bool
 is_over talk = talk.ended || list_any ends_talk talk.responses
 
+-- how many background steps follow the answers so far
+abbrev pub asked_in : Course → Talk → ℕ
+asked_in course talk = steps_asked course.pace.pump talk.responses
+
 -- A talk is one about a course: it opens with what the files say and goes on with their next numbers, and answers the
--- first lines as one plain map does, and steps by the parts of a store. These lines are left.
+-- first lines as one plain map does, and steps by the parts of a store, which the answers and the background steps between
+-- them move. These lines are left.
 pub record IsTalk (talk : Talk) (course : Course) (left : List (List ℕ)) : Type 0 where
   pub opens : Opens course.files course.given talk.opening
   pub first : IsNextSequence course.files talk.first.sequence
   pub file : IsNextFile course.files talk.first.file
   pub split : course.lines ≡ talk.answered ++ left
   pub answers : IsTranscript [] talk.opening talk.answered talk.responses
-  pub parts : (b : List Row) × PartsThrough talk.opening talk.answered talk.responses (parts_with None) b
+  pub parts : (taken : ℕ) × (parts : Parts) × PartsThrough course.pace 0 0 talk.opening talk.answered talk.responses no_parts taken parts
   pub whole : talk.ended ≡ true → (left ≡ []) × (list_any ends_talk talk.responses ≡ false)
 
 -- the command that a line asks for, where it asks for one

@@ -7,6 +7,7 @@ mod folder_host;
 mod foreign;
 mod handles;
 mod laws;
+mod pump;
 mod run;
 mod saying;
 mod serve;

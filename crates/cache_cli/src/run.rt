@@ -7,12 +7,14 @@ ghost use Rattle.cache_model.specs.Transcript.{may_be_refused, ends_talk};
 ghost use Rattle.cache_script.specs.LineReader.{units_taken};
 ghost use Rattle.cache_session.specs.Turns.{store_of, moment_of, is_broken, IsBuilt, IsFit};
 ghost use Rattle.cache_cli.specs.Causes.{HasHostCause, HasCause};
-ghost use Rattle.cache_cli.specs.Talk.{Course, Talk, next_command};
-ghost use Rattle.cache_cli.specs.Parts.{FollowsParts};
+ghost use Rattle.cache_cli.specs.Talk.{Course, Talk, next_command, asked_in};
+ghost use Rattle.cache_cli.specs.Parts.{FollowsOn};
+ghost use Rattle.cache_cli.specs.Saying.{is_memory};
 ghost use Rattle.cache_cli.specs.Run.{view_by, IsTalking, Does, Answered, LongAnswered, Closed};
-ghost use Rattle.cache_cli.specs.Steps.{IsTalkingOn, Stepped, Ran};
+ghost use Rattle.cache_cli.specs.Steps.{IsTalkingOn, AnsweredNext, IsPaced, Stepped, Ran};
 
-use crate::saying::{say_answer, say_refusal, say_reply, tell_damage};
+use crate::pump::{Pump, take_steps};
+use crate::saying::{end_by, say_answer, say_refusal, say_reply};
 use cache_disk::{Host, Source};
 use cache_model::{Command, Reply, Status, StoreFault};
 use cache_script::{LineFault, LineReader, ReadFault, Taken, read_line};
@@ -44,11 +46,11 @@ fn goes_on(reply: &Reply) -> bool
     !matches!(reply, Reply::Stopped | Reply::Halted)
 }
 
-// Whether want of memory is the answer to a command: where it may be, and the session can go on.
-fn is_refusal<S: Keyed>(refusable: bool, session: &Session<S>) -> bool
-    ensures { result ≡ (refusable && not (is_broken session.now || (S.facts (store_of session.now)).spoilt)) }
+// Whether a fault is answered as a refusal: want of memory where the command may be refused and the session can go on.
+fn is_refusal<S: Keyed>(refusable: bool, session: &Session<S>, fault: &StoreFault) -> bool
+    ensures { result ≡ (refusable && not (is_broken session.now || (S.facts (store_of session.now)).spoilt) && is_memory fault.now) }
 {
-    refusable && !session.is_spoilt()
+    refusable && !session.is_spoilt() && matches!(fault, StoreFault::Memory)
 }
 
 // Does a command, and gives its reply; None where it is refused for want of memory.
@@ -58,7 +60,7 @@ fn do_command<H: Host, S: Store<H>>(
     host: &mut H,
     command: Command,
 ) -> Result<Option<Reply>, Status>
-    requires follows { (s : S) (h : H) → FollowsParts (S.facts s) (S.means s (H.state h)) }
+    requires follows { FollowsOn S.facts S.means H.state }
     requires fit { IsFit (S.facts (store_of session.old)) (is_broken session.old) (moment_of session.old) }
     requires stands { IsTrue H.tells → (S.means (store_of session.old) (H.state host.old)).stands }
     requires command { IsCommand command }
@@ -74,16 +76,13 @@ fn do_command<H: Host, S: Store<H>>(
     let refusable = may_be_refused(&command);
     match session.turn(host, Event::Client(command)) {
         Ok(reply) => Ok(Some(reply)),
-        Err(StoreFault::Memory) => {
-            if is_refusal(refusable, session) {
+        Err(fault) => {
+            if is_refusal(refusable, session, &fault) {
                 Ok(None)
             } else {
-                Err(Status::NoMemory)
+                Err(end_by(alloc, host, fault))
             }
         }
-        Err(StoreFault::Failed) => Err(Status::DiskFailed),
-        Err(StoreFault::Spent(_)) => Err(Status::Spent),
-        Err(StoreFault::Damaged(damage)) => Err(tell_damage(alloc, host, &damage)),
     }
 }
 
@@ -94,7 +93,7 @@ fn answer<H: Host, S: Store<H>>(
     host: &mut H,
     command: Command,
 ) -> Result<bool, Status>
-    requires follows { (s : S) (h : H) → FollowsParts (S.facts s) (S.means s (H.state h)) }
+    requires follows { FollowsOn S.facts S.means H.state }
     requires fit { IsFit (S.facts (store_of session.old)) (is_broken session.old) (moment_of session.old) }
     requires stands { IsTrue H.tells → (S.means (store_of session.old) (H.state host.old)).stands }
     requires command { IsCommand command }
@@ -104,7 +103,7 @@ fn answer<H: Host, S: Store<H>>(
     ensures answered { IsTrue H.tells → (from : H) (course : Course) (ordered : Bool) (line : List ℕ) (left : List (List ℕ)) (talk : Talk)
         → IsTalking (H.state from) course ordered (line ∷ left) talk (view_by S.facts S.means session.old (H.state host.old))
         → meaning_of line ≡ asks command
-        → Answered (H.state from) course ordered left (talk.answered ++ line ∷ []) (view_by S.facts S.means session.new (H.state host.new)) result }
+        → Answered (H.state from) course ordered left (talk.answered ++ line ∷ []) (asked_in course talk) (view_by S.facts S.means session.new (H.state host.new)) result }
     ensures cause { HasHostCause (H.state host.old) (H.state host.new) result }
 {
     match do_command(alloc, session, host, command) {
@@ -126,7 +125,7 @@ fn answer_end<H: Host, S: Store<H>>(
     session: &mut Session<S>,
     host: &mut H,
 ) -> Result<(), Status>
-    requires follows { (s : S) (h : H) → FollowsParts (S.facts s) (S.means s (H.state h)) }
+    requires follows { FollowsOn S.facts S.means H.state }
     requires fit { IsFit (S.facts (store_of session.old)) (is_broken session.old) (moment_of session.old) }
     requires stands { IsTrue H.tells → (S.means (store_of session.old) (H.state host.old)).stands }
     ensures ended { IsTrue H.tells → (from : H) (course : Course) (ordered : Bool) (talk : Talk)
@@ -148,7 +147,7 @@ fn answer_line<H: Host, S: Store<H>>(
     host: &mut H,
     line: &[u8],
 ) -> Result<bool, Status>
-    requires follows { (s : S) (h : H) → FollowsParts (S.facts s) (S.means s (H.state h)) }
+    requires follows { FollowsOn S.facts S.means H.state }
     requires fit { IsFit (S.facts (store_of session.old)) (is_broken session.old) (moment_of session.old) }
     requires stands { IsTrue H.tells → (S.means (store_of session.old) (H.state host.old)).stands }
     ensures fit { OnOk result (IsFit (S.facts (store_of session.new)) (is_broken session.new) (moment_of session.new)) }
@@ -156,7 +155,7 @@ fn answer_line<H: Host, S: Store<H>>(
     ensures answered { IsTrue H.tells → (from : H) (course : Course) (ordered : Bool) (raw : List ℕ) (left : List (List ℕ)) (talk : Talk)
         → IsTalking (H.state from) course ordered (raw ∷ left) talk (view_by S.facts S.means session.old (H.state host.old))
         → meaning_of raw ≡ content_meaning line.now
-        → Answered (H.state from) course ordered left (talk.answered ++ raw ∷ []) (view_by S.facts S.means session.new (H.state host.new)) result }
+        → Answered (H.state from) course ordered left (talk.answered ++ raw ∷ []) (asked_in course talk) (view_by S.facts S.means session.new (H.state host.new)) result }
     ensures cause { HasHostCause (H.state host.old) (H.state host.new) result }
 {
     match read_line(alloc, line) {
@@ -174,7 +173,7 @@ fn refuse_long<H: Host, S: Store<H>>(session: &Session<S>, host: &mut H) -> Resu
     ensures answered { IsTrue H.tells → (from : H) (course : Course) (ordered : Bool) (raw : List ℕ) (left : List (List ℕ)) (talk : Talk)
         → IsTalking (H.state from) course ordered (raw ∷ left) talk (view_by S.facts S.means session.now (H.state host.old))
         → meaning_of raw ≡ refuses long
-        → LongAnswered (H.state from) course ordered left (talk.answered ++ raw ∷ []) (view_by S.facts S.means session.now (H.state host.new)) result }
+        → LongAnswered (H.state from) course ordered left (talk.answered ++ raw ∷ []) (asked_in course talk) (view_by S.facts S.means session.now (H.state host.new)) result }
     ensures cause { HasHostCause (H.state host.old) (H.state host.new) result }
 {
     say_answer(session, host, b"refused long\n")
@@ -188,15 +187,15 @@ fn answer_next<H: Host, I: Source, S: Store<H>>(
     host: &mut H,
     script: &mut I,
 ) -> Result<bool, Status>
-    requires follows { (s : S) (h : H) → FollowsParts (S.facts s) (S.means s (H.state h)) }
+    requires follows { FollowsOn S.facts S.means H.state }
     requires fit { IsFit (S.facts (store_of session.old)) (is_broken session.old) (moment_of session.old) }
     requires stands { IsTrue H.tells → (S.means (store_of session.old) (H.state host.old)).stands }
     ensures fit { IfOk result (λ more. more ≡ true → IsFit (S.facts (store_of session.new)) (is_broken session.new) (moment_of session.new)) }
     ensures stands { IsTrue H.tells → IfOk result (λ more. more ≡ true → (S.means (store_of session.new) (H.state host.new)).stands) }
     ensures units { IfOk result (λ more. more ≡ true → units_taken reader.old < units_taken reader.new) }
-    ensures stepped { IsTrue H.tells → IsTrue I.tells → (from : H) (course : Course) (ordered : Bool) (talk : Talk)
+    ensures answered { IsTrue H.tells → IsTrue I.tells → (from : H) (course : Course) (ordered : Bool) (talk : Talk)
         → IsTalkingOn (H.state from) course ordered talk (view_by S.facts S.means session.old (H.state host.old)) reader.old (I.rest script.old)
-        → Stepped (H.state from) course ordered (view_by S.facts S.means session.new (H.state host.new)) reader.new (I.rest script.new) result }
+        → AnsweredNext (H.state from) course ordered (asked_in course talk) (view_by S.facts S.means session.new (H.state host.new)) reader.new (I.rest script.new) result }
     ensures cause { HasCause (H.state host.old) (H.state host.new) (I.faults script.old) (I.faults script.new) result }
 {
     match reader.next(script) {
@@ -215,22 +214,56 @@ fn answer_next<H: Host, I: Source, S: Store<H>>(
     }
 }
 
-/// Answers the lines of a script in turn, to its end, or to a line that ends the talk.
+// Takes the next line, answers it, and takes the background steps behind the answer. False says that the talk is over.
+fn step_on<H: Host, I: Source, S: Store<H>>(
+    alloc: Global,
+    session: &mut Session<S>,
+    pump: &mut Pump,
+    reader: &mut LineReader,
+    host: &mut H,
+    script: &mut I,
+) -> Result<bool, Status>
+    requires follows { FollowsOn S.facts S.means H.state }
+    requires fit { IsFit (S.facts (store_of session.old)) (is_broken session.old) (moment_of session.old) }
+    requires stands { IsTrue H.tells → (S.means (store_of session.old) (H.state host.old)).stands }
+    ensures fit { IfOk result (λ more. more ≡ true → IsFit (S.facts (store_of session.new)) (is_broken session.new) (moment_of session.new)) }
+    ensures stands { IsTrue H.tells → IfOk result (λ more. more ≡ true → (S.means (store_of session.new) (H.state host.new)).stands) }
+    ensures units { IfOk result (λ more. more ≡ true → units_taken reader.old < units_taken reader.new) }
+    ensures stepped { IsTrue H.tells → IsTrue I.tells → (from : H) (course : Course) (ordered : Bool) (talk : Talk)
+        → IsTalkingOn (H.state from) course ordered talk (view_by S.facts S.means session.old (H.state host.old)) reader.old (I.rest script.old)
+        → IsPaced course (asked_in course talk) pump.old
+        → Stepped (H.state from) course ordered (view_by S.facts S.means session.new (H.state host.new)) pump.new reader.new (I.rest script.new) result }
+    ensures cause { HasCause (H.state host.old) (H.state host.new) (I.faults script.old) (I.faults script.new) result }
+{
+    match answer_next(alloc, session, reader, host, script) {
+        Ok(true) => match take_steps(alloc, session, pump, host) {
+            Ok(()) => Ok(true),
+            Err(status) => Err(status),
+        },
+        Ok(false) => Ok(false),
+        Err(status) => Err(status),
+    }
+}
+
+/// Answers the lines of a script in turn, to its end, or to a line that ends the talk. The background steps that follow
+/// each answer but the last go on with the next one.
 pub fn answer_script<H: Host, I: Source, S: Store<H>>(
     alloc: Global,
     session: &mut Session<S>,
+    pump: &mut Pump,
     reader: &mut LineReader,
     host: &mut H,
     script: &mut I,
 ) -> Result<(), Status>
-    requires follows { (s : S) (h : H) → FollowsParts (S.facts s) (S.means s (H.state h)) }
+    requires follows { FollowsOn S.facts S.means H.state }
     requires fit { IsFit (S.facts (store_of session.old)) (is_broken session.old) (moment_of session.old) }
     requires stands { IsTrue H.tells → (S.means (store_of session.old) (H.state host.old)).stands }
     ensures ran { IsTrue H.tells → IsTrue I.tells → (from : H) (course : Course) (ordered : Bool) (talk : Talk)
         → IsTalkingOn (H.state from) course ordered talk (view_by S.facts S.means session.old (H.state host.old)) reader.old (I.rest script.old)
+        → IsPaced course (asked_in course talk) pump.old
         → Ran (H.state from) course ordered (view_by S.facts S.means session.new (H.state host.new)) result }
     ensures cause { HasCause (H.state host.old) (H.state host.new) (I.faults script.old) (I.faults script.new) result }
 {
-    'lines: while answer_next(alloc, session, reader, host, script)? {}
+    'lines: while step_on(alloc, session, pump, reader, host, script)? {}
     Ok(())
 }

@@ -1,16 +1,18 @@
 // What a run says: the lines of its answers.
-ghost use Rattle.std.specs.Prelude.{◌≡◌, ◌++◌, [], ◌∷◌, ℕ, Bool, List, IfOk, IsTrue};
+ghost use Rattle.std.specs.Prelude.{◌≡◌, ◌++◌, [], ◌∷◌, ℕ, Bool, List, Err, IfOk, IsTrue};
 ghost use Rattle.cache_model.specs.Replies.{reply_text, refusal_text, line_of};
 ghost use Rattle.cache_script.specs.Refusals.{refusal_of};
+ghost use Rattle.cache_model.specs.declared.replies.Reply.{Reply};
+ghost use Rattle.cache_disk.specs.Calls.{HasStoreCause};
 ghost use Rattle.cache_session.specs.Turns.{store_of};
 ghost use Rattle.cache_cli.specs.Causes.{HostCauseOf, HasHostCause};
-ghost use Rattle.cache_cli.specs.Saying.{SaidBy};
+ghost use Rattle.cache_cli.specs.Saying.{SaidBy, ended_by, IsNoDamage};
 ghost use Rattle.cache_cli.specs.Talk.{Course, Talk};
 ghost use Rattle.cache_cli.specs.Run.{view_by, IsInHand, Told};
 ghost use Rattle.cache_cli.specs.Serving.{IsStill, TellsDamage};
 
 use cache_disk::{Host, HostFault};
-use cache_model::{Damage, ModelFault, Reply, Status};
+use cache_model::{Damage, ModelFault, Reply, Status, StoreFault};
 use cache_script::{LineFault, damaged_line, file_name_text, write_fault, write_reply};
 use cache_session::Session;
 use std::alloc::Global;
@@ -35,9 +37,9 @@ pub fn say_answer<H: Host, S: Store<H>>(
     bytes: &[u8],
 ) -> Result<(), Status>
     ensures stands { IsTrue H.tells → (S.means (store_of session.now) (H.state host.old)).stands → (S.means (store_of session.now) (H.state host.new)).stands }
-    ensures told { IsTrue H.tells → (from : H) (course : Course) (ordered : Bool) (left : List (List ℕ)) (talk : Talk)
-        → IsInHand (H.state from) course ordered left talk bytes.now (view_by S.facts S.means session.now (H.state host.old))
-        → Told (H.state from) course ordered left talk (view_by S.facts S.means session.now (H.state host.old)) (view_by S.facts S.means session.now (H.state host.new)) result }
+    ensures told { IsTrue H.tells → (from : H) (course : Course) (ordered : Bool) (left : List (List ℕ)) (talk : Talk) (taken : ℕ)
+        → IsInHand (H.state from) course ordered left talk taken bytes.now (view_by S.facts S.means session.now (H.state host.old))
+        → Told (H.state from) course ordered left talk taken (view_by S.facts S.means session.now (H.state host.old)) (view_by S.facts S.means session.now (H.state host.new)) result }
     ensures cause { HasHostCause (H.state host.old) (H.state host.new) result }
 {
     say(host, bytes)
@@ -69,9 +71,9 @@ pub fn say_reply<H: Host, S: Store<H>>(
     reply: &Reply,
 ) -> Result<(), Status>
     ensures stands { IsTrue H.tells → (S.means (store_of session.now) (H.state host.old)).stands → (S.means (store_of session.now) (H.state host.new)).stands }
-    ensures told { IsTrue H.tells → (from : H) (course : Course) (ordered : Bool) (left : List (List ℕ)) (talk : Talk)
-        → IsInHand (H.state from) course ordered left talk (line_of (reply_text reply.now)) (view_by S.facts S.means session.now (H.state host.old))
-        → Told (H.state from) course ordered left talk (view_by S.facts S.means session.now (H.state host.old)) (view_by S.facts S.means session.now (H.state host.new)) result }
+    ensures told { IsTrue H.tells → (from : H) (course : Course) (ordered : Bool) (left : List (List ℕ)) (talk : Talk) (taken : ℕ)
+        → IsInHand (H.state from) course ordered left talk taken (line_of (reply_text reply.now)) (view_by S.facts S.means session.now (H.state host.old))
+        → Told (H.state from) course ordered left talk taken (view_by S.facts S.means session.now (H.state host.old)) (view_by S.facts S.means session.now (H.state host.new)) result }
     ensures cause { HasHostCause (H.state host.old) (H.state host.new) result }
 {
     match reply_line(alloc, reply) {
@@ -88,9 +90,9 @@ pub fn say_refusal<H: Host, S: Store<H>>(
     fault: &LineFault,
 ) -> Result<(), Status>
     ensures stands { IsTrue H.tells → (S.means (store_of session.now) (H.state host.old)).stands → (S.means (store_of session.now) (H.state host.new)).stands }
-    ensures told { IsTrue H.tells → (from : H) (course : Course) (ordered : Bool) (left : List (List ℕ)) (talk : Talk)
-        → IsInHand (H.state from) course ordered left talk (line_of (refusal_text (refusal_of fault.now))) (view_by S.facts S.means session.now (H.state host.old))
-        → Told (H.state from) course ordered left talk (view_by S.facts S.means session.now (H.state host.old)) (view_by S.facts S.means session.now (H.state host.new)) result }
+    ensures told { IsTrue H.tells → (from : H) (course : Course) (ordered : Bool) (left : List (List ℕ)) (talk : Talk) (taken : ℕ)
+        → IsInHand (H.state from) course ordered left talk taken (line_of (refusal_text (refusal_of fault.now))) (view_by S.facts S.means session.now (H.state host.old))
+        → Told (H.state from) course ordered left talk taken (view_by S.facts S.means session.now (H.state host.old)) (view_by S.facts S.means session.now (H.state host.new)) result }
     ensures cause { HasHostCause (H.state host.old) (H.state host.new) result }
 {
     match refusal_line(alloc, fault) {
@@ -114,5 +116,18 @@ pub fn tell_damage<H: Host>(alloc: Global, host: &mut H, damage: &Damage) -> Sta
     match say(host, line.as_bytes()) {
         Ok(()) => Status::Damaged,
         Err(status) => status,
+    }
+}
+
+/// What a fault of the store ends a run with. Where the store is damaged a line says so.
+pub fn end_by<H: Host>(alloc: Global, host: &mut H, fault: StoreFault) -> Status
+    ensures plain { IsNoDamage fault → (result ≡ ended_by fault) × (host.new ≡ host.old) }
+    ensures cause { (from : H) → HasStoreCause {T = Reply} (H.state from) (H.state host.old) (Err fault) → HostCauseOf result (H.state from) (H.state host.new) }
+{
+    match fault {
+        StoreFault::Failed => Status::DiskFailed,
+        StoreFault::Memory => Status::NoMemory,
+        StoreFault::Spent(_) => Status::Spent,
+        StoreFault::Damaged(damage) => tell_damage(alloc, host, &damage),
     }
 }

@@ -14,7 +14,7 @@ ghost use Rattle.cache_cli.specs.Causes.{CauseOf, WholeCauseOf, HostCauseOf, Has
 ghost use Rattle.cache_cli.specs.Foreign.{IsForeign};
 ghost use Rattle.cache_cli.specs.DirectorySettings.{HasSettings, EndsBySettings};
 ghost use Rattle.cache_cli.specs.Talk.{Course};
-ghost use Rattle.cache_cli.specs.Parts.{FollowsParts};
+ghost use Rattle.cache_cli.specs.Parts.{FollowsOn};
 ghost use Rattle.cache_cli.specs.Run.{view, view_by};
 ghost use Rattle.cache_cli.specs.Opening.{Begins, Finished};
 ghost use Rattle.cache_cli.specs.Ends.{IsUnused, EndsForeign, EndsRefused};
@@ -23,6 +23,7 @@ ghost use Rattle.cache_cli.specs.Words.{words_moment};
 
 use crate::directory_settings::settings_in;
 use crate::foreign::is_foreign;
+use crate::pump::Pump;
 use crate::run::answer_script;
 use crate::saying::{say_answer, tell_damage};
 use crate::words::moment_of;
@@ -74,8 +75,8 @@ pub fn serve<H: Host, I: Source>(
     }
 }
 
-/// The same by settings that are handed in, whatever the settings file says: `file_size`, `sync_writes` and `hash_bits`
-/// are in force. It never ends with the status Settings.
+/// The same by settings that are handed in, whatever the settings file says: `file_size`, `sync_writes`, `hash_bits` and
+/// `pump` are in force. It never ends with the status Settings.
 ///
 /// Where changes aren't synced at once, only `sync` and `stop` promise them: a crash may leave a key as after any prefix
 /// of its changes from the last such answer on.
@@ -158,7 +159,8 @@ fn serve_store<H: Host, I: Source>(
 {
     match SoftIndex::start(alloc, host, 0, settings, |_key: &Key| true) {
         Ok((store, mark)) => {
-            let ran = run_store(alloc, store, start_moment(given, mark), host, script);
+            let moment = start_moment(given, mark);
+            let ran = run_store(alloc, store, moment, settings.pump, host, script);
             match ran.result {
                 Ok(()) => Status::Done,
                 Err(status) => status,
@@ -178,40 +180,43 @@ struct Ran<S> {
     result: Result<(), Status>,
 }
 
-// Runs a store that was opened on a script from a moment on, and gives the session as it leaves it.
+// Runs a store that was opened on a script from a moment on, with so many background steps behind each answer, and gives
+// the session as it leaves it.
 fn run_store<H: Host, I: Source, S: Store<H>>(
     alloc: Global,
     store: S,
     moment: u64,
+    pump: u64,
     host: &mut H,
     script: &mut I,
 ) -> Ran<S>
-    requires follows { (s : S) (h : H) → FollowsParts (S.facts s) (S.means s (H.state h)) }
+    requires follows { FollowsOn S.facts S.means H.state }
     requires ready { IsReady (S.facts store) moment }
     requires stands { IsTrue H.tells → (S.means store (H.state host.old)).stands }
     ensures finished { IsTrue H.tells → IsTrue I.tells → (course : Course) (ordered : Bool)
-        → course.lines ≡ lines_of (I.rest script.old)
+        → course.lines ≡ lines_of (I.rest script.old) → course.pace.pump ≡ pump
         → Begins course ordered (view (S.facts store) (S.means store (H.state host.old)) (H.state host.old) moment)
         → Finished (H.state host.old) course ordered (view_by S.facts S.means result.session (H.state host.new)) result.result }
     ensures cause { HasCause (H.state host.old) (H.state host.new) (I.faults script.old) (I.faults script.new) result.result }
 {
     let mut session = Session::new(alloc, store, moment);
-    let result = answer_from_opening(alloc, &mut session, host, script);
+    let result = answer_from_opening(alloc, &mut session, pump, host, script);
     Ran { session, result }
 }
 
-// Says that the directory is open, and answers the script.
+// Says that the directory is open, and answers the script, with so many background steps behind each answer.
 fn answer_from_opening<H: Host, I: Source, S: Store<H>>(
     alloc: Global,
     session: &mut Session<S>,
+    pump: u64,
     host: &mut H,
     script: &mut I,
 ) -> Result<(), Status>
-    requires follows { (s : S) (h : H) → FollowsParts (S.facts s) (S.means s (H.state h)) }
+    requires follows { FollowsOn S.facts S.means H.state }
     requires fit { IsFit (S.facts (store_of session.old)) (is_broken session.old) (moment_of session.old) }
     requires stands { IsTrue H.tells → (S.means (store_of session.old) (H.state host.old)).stands }
     ensures finished { IsTrue H.tells → IsTrue I.tells → (course : Course) (ordered : Bool)
-        → course.lines ≡ lines_of (I.rest script.old)
+        → course.lines ≡ lines_of (I.rest script.old) → course.pace.pump ≡ pump
         → Begins course ordered (view_by S.facts S.means session.old (H.state host.old))
         → Finished (H.state host.old) course ordered (view_by S.facts S.means session.new (H.state host.new)) result }
     ensures cause { HasCause (H.state host.old) (H.state host.new) (I.faults script.old) (I.faults script.new) result }
@@ -225,13 +230,16 @@ fn answer_from_opening<H: Host, I: Source, S: Store<H>>(
     let Ok(mut reader) = LineReader::new(alloc) else {
         return Err(Status::NoMemory);
     };
-    answer_script(alloc, session, &mut reader, host, script)
+    let mut pump = Pump::new(pump);
+    answer_script(alloc, session, &mut pump, &mut reader, host, script)
 }
 
 #[cfg(test)]
 mod crashes;
 #[cfg(test)]
 mod cuts;
+#[cfg(test)]
+mod noting;
 #[cfg(test)]
 mod plain_reader;
 #[cfg(test)]

@@ -222,9 +222,7 @@ fn are_in_force(standard: &Settings, settings: &Settings) -> bool
     ensures { result ≡ true ↔ AreInForce standard.now settings.now }
 {
     settings.compact_below == standard.compact_below
-        && settings.queue == standard.queue
         && settings.nodes == standard.nodes
-        && settings.hash_bits == standard.hash_bits
         && settings.mode == standard.mode
         && settings.behind_limit == standard.behind_limit
         && settings.max_entries == standard.max_entries

@@ -1,5 +1,5 @@
-// Crashes at each turn of a run whose changes aren't synced one by one: all keys read as after one cut of its commands,
-// which holds those up to the last `sync` that was answered.
+// Crashes at each turn of a run whose changes aren't synced one by one, with five background steps behind each answer: all
+// keys read as after one cut of its commands, which holds those up to the last `sync` that was answered.
 use super::crashes::{FIRST_MOMENT, PlainRun, said_of_run};
 use super::plain_reader::Records;
 use super::tests::{Part, directory_of, script_of};
@@ -66,7 +66,7 @@ fn host_after(rt: &impl Abort, alloc: Global, count: usize) -> Result<MemoryHost
         script.push(b'\n')?;
     }
     script.extend_from_slice(END.as_bytes())?;
-    let settings = settings_of(alloc, 0, false)?;
+    let settings = settings_of(alloc, 0, false, 5)?;
     let status = serve_lines(alloc, &settings, &mut host, script)?;
     assert_eq!(rt; status, Status::Done, "the run of {count} lines");
     Ok(host)

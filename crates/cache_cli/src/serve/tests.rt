@@ -674,8 +674,9 @@ fn pieces_make_no_difference(rt: HostRuntime) -> Result<(), Fail> {
 
 // How many calls of the disk the script makes: the size of a settings file, the names twice, a sync of the data file and of
 // the names, its size and its bytes; for the first put the file, its gate, a sync of both kinds, the version, the record,
-// the end, a sync, the gate and a sync; and for the second put the record, the end, a sync, the gate and a sync.
-const DISK_CALLS: u64 = 7 + 10 + 5;
+// the end, a sync, the gate and a sync; for the second put the record, the end, a sync, the gate and a sync; and for each
+// of three reads the record.
+const DISK_CALLS: u64 = 7 + 10 + 5 + 3;
 
 #[test]
 fn each_call_of_the_disk_fails_in_turn(rt: HostRuntime) -> Result<(), Fail> {

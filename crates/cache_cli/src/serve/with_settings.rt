@@ -1,5 +1,6 @@
-// Runs by settings that are handed in: where files end, what is written and not yet sealed, and what a step does.
-ghost use Rattle.std.specs.Prelude.{IfOk};
+// Runs by settings that are handed in: where files end, what is written and not yet sealed, what a step does, and that the
+// steps behind the answers make no difference.
+ghost use Rattle.std.specs.Prelude.{◌≤◌, IfOk};
 ghost use Rattle.cache_model.specs.Settings.{AreInRange};
 
 use super::tests::{
@@ -36,14 +37,21 @@ const NOT_SEALED: &[u8] = &[
     98,
 ];
 
-// The settings with other sizes of files, and with or without a sync of each change.
-pub(super) fn settings_of(alloc: Global, beyond: u8, sync_writes: bool) -> Result<Settings, Fail>
+// The settings with other sizes of files, with or without a sync of each change, and with so many steps behind each answer.
+pub(super) fn settings_of(
+    alloc: Global,
+    beyond: u8,
+    sync_writes: bool,
+    pump: u64,
+) -> Result<Settings, Fail>
+    requires { pump ≤ 1000 }
     ensures { IfOk result AreInRange }
 {
     let defaults = Settings::defaults(alloc)?;
     Ok(Settings {
         file_size: LEAST + u64::from(beyond),
         sync_writes,
+        pump,
         ..defaults
     })
 }
@@ -109,8 +117,8 @@ const RUNS: [Run; 9] = [
     // A step closes the file that is written, where there is one.
     (
         true,
-        "step rotate\nput a b\nstep rotate\nstep rotate\n",
-        "opened 1000\nidle\nok\ndone\nidle\nstopped\n",
+        "step rotate\nstep index\nput a b\nstep rotate\nstep rotate\n",
+        "opened 1000\nidle\nidle\nok\ndone\nidle\nstopped\n",
         &[(FIRST, ONE_PUT)],
     ),
     (
@@ -148,30 +156,35 @@ fn has_files(
     Ok(())
 }
 
-#[test]
-fn runs_by_settings_come_out(rt: HostRuntime) -> Result<(), Fail> {
-    let alloc = rt.alloc();
+// Whatever so many steps behind each answer do, the runs come out.
+fn runs_come_out(rt: &impl Abort, alloc: Global, pump: u64) -> Result<(), Fail>
+    requires { pump ≤ 1000 }
+{
     for (sync_writes, script, said, files) in RUNS {
-        let settings = settings_of(alloc, 0, sync_writes)?;
-        let mut host = empty_host(&rt, alloc)?;
-        let status = serve_lines(
-            alloc,
-            &settings,
-            &mut host,
-            script.as_bytes().to_vec(alloc)?,
-        )?;
-        assert_eq!(rt; status, Status::Done, "{script}");
-        assert_eq!(rt; host.said(), said.as_bytes(), "{script}");
-        has_files(&rt, alloc, &mut host, files)?;
+        let settings = settings_of(alloc, 0, sync_writes, pump)?;
+        let mut host = empty_host(rt, alloc)?;
+        let script = script.as_bytes().to_vec(alloc)?;
+        let status = serve_lines(alloc, &settings, &mut host, script)?;
+        assert_eq!(rt; status, Status::Done, "{said} by {pump}");
+        assert_eq!(rt; host.said(), said.as_bytes(), "by {pump}");
+        has_files(rt, alloc, &mut host, files)?;
     }
     Ok(())
+}
+
+#[test]
+fn runs_by_settings_come_out(rt: HostRuntime) -> Result<(), Fail> {
+    runs_come_out(&rt, rt.alloc(), 0)?;
+    runs_come_out(&rt, rt.alloc(), 1)?;
+    runs_come_out(&rt, rt.alloc(), 5)?;
+    runs_come_out(&rt, rt.alloc(), 1000)
 }
 
 // What wasn't sealed is read by no later run, and what was is.
 #[test]
 fn a_later_run_reads_what_was_synced(rt: HostRuntime) -> Result<(), Fail> {
     let alloc = rt.alloc();
-    let settings = settings_of(alloc, 0, false)?;
+    let settings = settings_of(alloc, 0, false, 1)?;
     let files = directory_of(&rt, alloc, Some((FIRST, SYNCED_AND_NOT)))?;
     let mut host = MemoryHost::new(alloc, files, Vec::new(alloc), Vec::new(alloc), 0)?;
     let status = serve_lines(alloc, &settings, &mut host, b"get k\n".to_vec(alloc)?)?;
@@ -214,7 +227,7 @@ fn files_end_at_their_size(rt: HostRuntime) -> Result<(), Fail> {
                 Part::Text("\nput k c\nget k\n"),
             ],
         )?;
-        let settings = settings_of(alloc, beyond, sync_writes)?;
+        let settings = settings_of(alloc, beyond, sync_writes, 1)?;
         let mut host = empty_host(&rt, alloc)?;
         let status = serve_lines(alloc, &settings, &mut host, script)?;
         assert_eq!(rt; status, Status::Done, "{row:?}");

@@ -88,12 +88,14 @@ const DEFAULTS: [&str; 8] = [
 ];
 
 // Texts of settings that are in force, and what shows of them.
-const IN_FORCE: [(&str, &str); 8] = [
+const IN_FORCE: [(&str, &str); 10] = [
     ("file_size = 4096", "file_size: 4096,"),
     ("pump = 0", "pump: 0,"),
     ("pump = 1000 # the most", "pump: 1000,"),
     ("\"pump\" = 3", "pump: 3,"),
     ("\tpump=0b11\r\n", "pump: 3,"),
+    ("hash_bits = 0", "hash_bits: 0,"),
+    ("hash_bits = 0x1F", "hash_bits: 31,"),
     ("sync_writes = false", "sync_writes: false,"),
     (
         "pump = 2\nsync_writes = false\nfile_size = 5000",
@@ -106,7 +108,7 @@ const IN_FORCE: [(&str, &str); 8] = [
 ];
 
 // Texts that are wrong.
-const WRONG: [&str; 30] = [
+const WRONG: [&str; 28] = [
     // No document.
     "pump",
     "pump =",
@@ -133,9 +135,7 @@ const WRONG: [&str; 30] = [
     "pump.steps = 1",
     // In their ranges, and not built yet.
     "compact_below = 49",
-    "queue = 999",
     "nodes = 8",
-    "hash_bits = 31",
     "mode = \"behind\"",
     "behind_limit = 1",
     "max_entries = 1000000",

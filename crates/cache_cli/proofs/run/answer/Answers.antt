@@ -1,12 +1,10 @@
-use Rattle.std.proofs.Common.{sym, ap, subst, refl, inr, [], ◌∷◌, Option, true}
+use Rattle.std.proofs.Common.{ap, subst, refl, ◌∷◌, Option, true}
 use Rattle.cache_model.specs.declared.replies.Reply.{Reply}
-use Rattle.cache_model.specs.Lines.{LineMeaning}
 use Rattle.cache_model.specs.Replies.{replies, refused, memory}
-use Rattle.cache_model.specs.Transcript.{Answers}
-use Rattle.cache_cli.specs.Talk.{plain_of, asked_by}
+use Rattle.cache_cli.specs.Talk.{asked_by, asked_in}
 use Rattle.cache_cli.specs.Run.{view_by, DoesBy}
 use Rattle.cache_cli.proofs.Answering.{with_answer}
-use Rattle.cache_cli.proofs.Lines.{refusal_in_hand, reply_in_hand, answered_ok, answered_err}
+use Rattle.cache_cli.proofs.Lines.{reply_in_hand, memory_in_hand, answered_ok, answered_err}
 use Rattle.cache_cli.proofs.run.answer.Goals as goal
 
 pub returns-in-Ok-clause-answered : goal.returns-in-Ok-clause-answered
@@ -18,9 +16,9 @@ returns-in-Ok-clause-answered g c = λ tells from course ordered line left talk 
     let reply = c.in-Ok-Some.reply in
     let does = c.in-Ok-Some.ensures.does tells from course ordered (line ∷ left) talk talking (ap asked_by asked) in
     let did = subst (λ (o : Option Reply). DoesBy o start course ordered (line ∷ left) talk c.args.command old mid) c.in-Ok-Some.field-0-is does.goes in
-    let hand = reply_in_hand start course ordered left talk line c.args.command reply old mid talking asked did.0 did.2 did.1 did.3 in
-    answered_ok start course ordered left talk line (replies reply) old mid now talking did.2 c.goes_on.result c.goes_on.ensures
-    (c.in-Ok.ensures.told tells from course ordered left (with_answer talk line (replies reply)) hand)
+    let hand = reply_in_hand start course ordered left talk line c.args.command reply old mid talking asked does.silent did in
+    answered_ok start course ordered left talk line (replies reply) old mid now talking does.silent c.goes_on.result c.goes_on.ensures
+    (c.in-Ok.ensures.told tells from course ordered left (with_answer talk line (replies reply)) (asked_in course talk) hand)
 
 pub returns-in-Ok-Some-clause-answered : goal.returns-in-Ok-Some-clause-answered
 returns-in-Ok-Some-clause-answered g c = λ tells from course ordered line left talk talking asked.
@@ -31,9 +29,9 @@ returns-in-Ok-Some-clause-answered g c = λ tells from course ordered line left 
     let reply = c.in-Ok-Some.reply in
     let does = c.in-Ok-Some.ensures.does tells from course ordered (line ∷ left) talk talking (ap asked_by asked) in
     let did = subst (λ (o : Option Reply). DoesBy o start course ordered (line ∷ left) talk c.args.command old mid) c.in-Ok-Some.field-0-is does.goes in
-    let hand = reply_in_hand start course ordered left talk line c.args.command reply old mid talking asked did.0 did.2 did.1 did.3 in
-    answered_err start course ordered left talk line (replies reply) old mid now talking did.2 c.in-Err-say_reply.status
-    (c.in-Err-say_reply.ensures.told tells from course ordered left (with_answer talk line (replies reply)) hand)
+    let hand = reply_in_hand start course ordered left talk line c.args.command reply old mid talking asked does.silent did in
+    answered_err start course ordered left talk line (replies reply) old mid now talking does.silent c.in-Err-say_reply.status
+    (c.in-Err-say_reply.ensures.told tells from course ordered left (with_answer talk line (replies reply)) (asked_in course talk) hand)
 
 pub returns-in-Ok-say_refusal-clause-answered : goal.returns-in-Ok-say_refusal-clause-answered
 returns-in-Ok-say_refusal-clause-answered g c = λ tells from course ordered line left talk talking asked.
@@ -43,10 +41,9 @@ returns-in-Ok-say_refusal-clause-answered g c = λ tells from course ordered lin
     let now = view_by g.S.Keyed.facts g.S.Keyed.means c.do_command.new.session (g.H.Host.state c.say_refusal.new.host) in
     let does = c.in-Ok-None.ensures.does tells from course ordered (line ∷ left) talk talking (ap asked_by asked) in
     let did = subst (λ (o : Option Reply). DoesBy o start course ordered (line ∷ left) talk c.args.command old mid) c.in-Ok-None.field-0-is does.goes in
-    let answers = subst (λ (m : LineMeaning). Answers [] (plain_of talk) m (refused memory)) (sym asked) (inr (refl, did.1)) in
-    let hand = refusal_in_hand start course ordered left talk line memory mid did.0 answers in
-    answered_ok start course ordered left talk line (refused memory) mid mid now did.0 refl true refl
-    (c.in-Ok-say_refusal.ensures.told tells from course ordered left (with_answer talk line (refused memory)) hand)
+    let hand = memory_in_hand start course ordered left talk line c.args.command old mid talking asked does.silent did in
+    answered_ok start course ordered left talk line (refused memory) old mid now talking does.silent true refl
+    (c.in-Ok-say_refusal.ensures.told tells from course ordered left (with_answer talk line (refused memory)) (asked_in course talk) hand)
 
 pub returns-in-Ok-None-clause-answered : goal.returns-in-Ok-None-clause-answered
 returns-in-Ok-None-clause-answered g c = λ tells from course ordered line left talk talking asked.
@@ -56,10 +53,9 @@ returns-in-Ok-None-clause-answered g c = λ tells from course ordered line left 
     let now = view_by g.S.Keyed.facts g.S.Keyed.means c.do_command.new.session (g.H.Host.state c.say_refusal.new.host) in
     let does = c.in-Ok-None.ensures.does tells from course ordered (line ∷ left) talk talking (ap asked_by asked) in
     let did = subst (λ (o : Option Reply). DoesBy o start course ordered (line ∷ left) talk c.args.command old mid) c.in-Ok-None.field-0-is does.goes in
-    let answers = subst (λ (m : LineMeaning). Answers [] (plain_of talk) m (refused memory)) (sym asked) (inr (refl, did.1)) in
-    let hand = refusal_in_hand start course ordered left talk line memory mid did.0 answers in
-    answered_err start course ordered left talk line (refused memory) mid mid now did.0 refl c.in-Err-say_refusal.status
-    (c.in-Err-say_refusal.ensures.told tells from course ordered left (with_answer talk line (refused memory)) hand)
+    let hand = memory_in_hand start course ordered left talk line c.args.command old mid talking asked does.silent did in
+    answered_err start course ordered left talk line (refused memory) old mid now talking does.silent c.in-Err-say_refusal.status
+    (c.in-Err-say_refusal.ensures.told tells from course ordered left (with_answer talk line (refused memory)) (asked_in course talk) hand)
 
 pub returns-clause-answered : goal.returns-clause-answered
 returns-clause-answered g c = λ tells from course ordered line left talk talking asked.

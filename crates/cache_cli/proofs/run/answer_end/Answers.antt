@@ -1,6 +1,7 @@
 use Rattle.std.proofs.Common.{sym, subst, refl, [], Option}
 use Rattle.cache_model.specs.declared.commands.Command.TheVariants.{Stop}
 use Rattle.cache_model.specs.declared.replies.Reply.{Reply}
+use Rattle.cache_cli.specs.Talk.{asked_in}
 use Rattle.cache_cli.specs.Run.{view_by, DoesBy}
 use Rattle.cache_cli.proofs.Answering.{with_end, true_false}
 use Rattle.cache_cli.proofs.Lines.{end_in_hand, closed}
@@ -14,8 +15,8 @@ returns-in-Ok-Some-clause-ended g c = λ tells from course ordered talk talking.
     let now = view_by g.S.Keyed.facts g.S.Keyed.means c.do_command.new.session (g.H.Host.state c.say_reply.new.host) in
     let does = c.in-Ok-Some.ensures.does tells from course ordered [] talk talking refl in
     let did = subst (λ (o : Option Reply). DoesBy o start course ordered [] talk Stop old mid) c.in-Ok-Some.field-0-is does.goes in
-    let hand = end_in_hand start course ordered talk c.in-Ok-Some.reply old mid talking did.0 did.2 did.1 did.3 in
-    closed start course ordered talk old mid now c.say_reply.result talking did.2 (c.say_reply.ensures.told tells from course ordered [] (with_end talk) hand)
+    let hand = end_in_hand start course ordered talk c.in-Ok-Some.reply old mid talking does.silent did in
+    closed start course ordered talk old mid now c.say_reply.result talking does.silent (c.say_reply.ensures.told tells from course ordered [] (with_end talk) (asked_in course talk) hand)
 
 pub returns-in-Ok-None-clause-ended : goal.returns-in-Ok-None-clause-ended
 returns-in-Ok-None-clause-ended g c = λ tells from course ordered talk talking.
@@ -24,7 +25,7 @@ returns-in-Ok-None-clause-ended g c = λ tells from course ordered talk talking.
     let mid = view_by g.S.Keyed.facts g.S.Keyed.means c.do_command.new.session (g.H.Host.state c.do_command.new.host) in
     let does = c.in-Ok-None.ensures.does tells from course ordered [] talk talking refl in
     let did = subst (λ (o : Option Reply). DoesBy o start course ordered [] talk Stop old mid) c.in-Ok-None.field-0-is does.goes in
-    absurd (true_false (sym did.1))
+    absurd (true_false (sym did.0))
 
 pub returns-in-Err-clause-ended : goal.returns-in-Err-clause-ended
 returns-in-Err-clause-ended g c = λ tells from course ordered talk talking.

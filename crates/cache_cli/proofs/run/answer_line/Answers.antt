@@ -3,7 +3,7 @@ use Rattle.cache_model.specs.Lines.{LineMeaning, content_meaning}
 use Rattle.cache_model.specs.Replies.{refused}
 use Rattle.cache_model.specs.Transcript.{Answers}
 use Rattle.cache_script.specs.Refusals.{refusal_of}
-use Rattle.cache_cli.specs.Talk.{plain_of}
+use Rattle.cache_cli.specs.Talk.{plain_of, asked_in}
 use Rattle.cache_cli.specs.Run.{view_by}
 use Rattle.cache_cli.proofs.Answering.{with_answer}
 use Rattle.cache_script.proofs.Known.{asked_of}
@@ -28,7 +28,7 @@ returns-in-Ok-say_refusal-clause-answered g c = λ tells from course ordered raw
     let answers = subst (λ (m : LineMeaning). Answers [] (plain_of talk) m (refused refusal)) (sym means) (c.in-Err.ensures.refused [] (plain_of talk)) in
     let hand = refusal_in_hand start course ordered left talk raw refusal old talking answers in
     answered_ok start course ordered left talk raw (refused refusal) old old now talking refl true refl
-    (c.in-Ok-say_refusal.ensures.told tells from course ordered left (with_answer talk raw (refused refusal)) hand)
+    (c.in-Ok-say_refusal.ensures.told tells from course ordered left (with_answer talk raw (refused refusal)) (asked_in course talk) hand)
 
 pub returns-in-Err-say_refusal-clause-answered : goal.returns-in-Err-say_refusal-clause-answered
 returns-in-Err-say_refusal-clause-answered g c = λ tells from course ordered raw left talk talking means.
@@ -40,4 +40,4 @@ returns-in-Err-say_refusal-clause-answered g c = λ tells from course ordered ra
     let answers = subst (λ (m : LineMeaning). Answers [] (plain_of talk) m (refused refusal)) (sym means) (c.in-Err.ensures.refused [] (plain_of talk)) in
     let hand = refusal_in_hand start course ordered left talk raw refusal old talking answers in
     answered_err start course ordered left talk raw (refused refusal) old old now talking refl c.in-Err-say_refusal.status
-    (c.in-Err-say_refusal.ensures.told tells from course ordered left (with_answer talk raw (refused refusal)) hand)
+    (c.in-Err-say_refusal.ensures.told tells from course ordered left (with_answer talk raw (refused refusal)) (asked_in course talk) hand)

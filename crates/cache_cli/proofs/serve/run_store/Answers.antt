@@ -8,6 +8,6 @@ pub answer_from_opening-result-requires-clause-stands : goal.answer_from_opening
 answer_from_opening-result-requires-clause-stands g c = λ tells. stands_session g.S.Keyed.means c.new-session.result c.args.store c.new-session.ensures.store (g.H.Host.state c.args.host.now) (c.requires.stands tells)
 
 pub returns-clause-finished : goal.returns-clause-finished
-returns-clause-finished g c = λ tells told course ordered lines begun.
-    c.answer_from_opening-result.ensures.finished tells told course ordered lines
+returns-clause-finished g c = λ tells told course ordered lines pump begun.
+    c.answer_from_opening-result.ensures.finished tells told course ordered lines pump
     (begins_session g.S.Keyed.facts g.S.Keyed.means c.new-session.result c.args.store c.args.moment ordered c.new-session.ensures.store c.new-session.ensures.moment course (g.H.Host.state c.args.host.now) begun)

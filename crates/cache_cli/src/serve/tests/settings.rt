@@ -182,3 +182,27 @@ fn file_size_is_in_force(rt: HostRuntime) -> Result<(), Fail> {
     }
     Ok(())
 }
+
+// With no bits of the hash all keys have one hash, and they are kept apart.
+#[test]
+fn hash_bits_is_in_force(rt: HostRuntime) -> Result<(), Fail> {
+    let alloc = rt.alloc();
+    let given = Given {
+        file: Some((RULES, b"hash_bits = 0\npump = 5\n")),
+        ..PLAIN
+    };
+    let mut host = host_of(&rt, alloc, &given)?;
+    talks(
+        &rt,
+        alloc,
+        &mut host,
+        &[
+            ("put a 1", "ok"),
+            ("put b 2", "ok"),
+            ("remove a", "ok"),
+            ("get a", "none"),
+            ("get b", "value 2"),
+            ("keys", "keys b"),
+        ],
+    )
+}
