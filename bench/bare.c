@@ -3,6 +3,11 @@
  * bare loop FILE MOMENT PUTS KEYS LENGTH EACH   the writes and syncs of so many puts, with nothing else; EACH is how many
  *                                               puts stand in one frame
  * bare read FOLDER COUNT                        opens, syncs and reads so many data files one after another
+ * bare parse FOLDER COUNT RECORDS               reads so many data files whole, parses their frames and hashes each key; the
+ *                                               records have to be so many
+ * bare gets FOLDER COUNT PLACES SAYS            reads the records at these places of so many data files, one read each; with
+ *                                               SAYS 1 each is written to /dev/null by one write. A place is three
+ *                                               numbers of 4 bytes: the file's, the offset, the length
  * bare forget FOLDER COUNT                      asks the system to forget what it holds of so many data files
  * bare run SCRIPT PROGRAM WORD..                the program on a script, with its output thrown away
  *
@@ -139,6 +144,101 @@ static void read_files(char **words) {
     report(begun);
 }
 
+static uint64_t number_at(const uint8_t *from, int bytes) {
+    uint64_t number = 0;
+    for (int at = 0; at < bytes; at++)
+        number = number << 8 | from[at];
+    return number;
+}
+
+static uint32_t hash_of(const uint8_t *key, size_t length) {
+    uint32_t hash = 2166136261u;
+    for (size_t at = 0; at < length; at++)
+        hash = (hash ^ key[at]) * 16777619u;
+    return hash;
+}
+
+/* A file whole, once it was synced. The bytes are the caller's to free. */
+static uint8_t *whole_file(const char *path, size_t *size) {
+    int file = open(path, O_RDWR);
+    need(file >= 0 && fdatasync(file) == 0, path);
+    off_t end = lseek(file, 0, SEEK_END);
+    need(end >= 0, path);
+    uint8_t *bytes = malloc(end + 1);
+    need(bytes != NULL && pread(file, bytes, end, 0) == end && close(file) == 0, path);
+    *size = end;
+    return bytes;
+}
+
+/* The records of the frames that count in a data file, which is undamaged; the hashes of their keys are joined into one. */
+static uint64_t parse_file(const uint8_t *bytes, size_t size, uint32_t *joined) {
+    uint64_t records = 0;
+    size_t at = 2;
+    int is_open = size > 1 && bytes[0] == 1;
+    while (is_open && at < size) {
+        const uint8_t *item = bytes + at;
+        if (item[0] == 0) {
+            is_open = item[9] == 1;
+            at += 10;
+            continue;
+        }
+        size_t front = item[0] == 1 ? 23 : 11;
+        size_t key = number_at(item + (item[0] == 1 ? 17 : 9), 2);
+        size_t value = item[0] == 1 ? number_at(item + 19, 4) : 0;
+        *joined ^= hash_of(item + front, key);
+        at += front + key + value;
+        records++;
+    }
+    return records;
+}
+
+/* What was computed is kept here, so that no compiler leaves it out. */
+static volatile uint32_t kept;
+
+static void parse_files(char **words) {
+    uint64_t count = strtoull(words[1], NULL, 10), wanted = strtoull(words[2], NULL, 10), records = 0;
+    uint32_t joined = 0;
+    char path[4096];
+    double begun = now();
+    for (uint64_t number = 1; number <= count; number++) {
+        size_t size;
+        file_path(path, words[0], number);
+        uint8_t *bytes = whole_file(path, &size);
+        records += parse_file(bytes, size, &joined);
+        free(bytes);
+    }
+    report(begun);
+    kept = joined;
+    if (records != wanted) {
+        fprintf(stderr, "bare: there are %llu records\n", (unsigned long long)records);
+        exit(1);
+    }
+}
+
+static void get_records(char **words) {
+    uint64_t count = strtoull(words[1], NULL, 10);
+    int says = words[3][0] == '1';
+    char path[4096];
+    size_t size;
+    uint8_t *places = whole_file(words[2], &size), bytes[70000];
+    int *files = malloc((count + 1) * sizeof *files);
+    need(files != NULL, "memory");
+    for (uint64_t number = 1; number <= count; number++) {
+        file_path(path, words[0], number);
+        files[number] = open(path, O_RDONLY);
+        need(files[number] >= 0, path);
+    }
+    int output = open("/dev/null", O_WRONLY);
+    need(output >= 0, "/dev/null");
+    double begun = now();
+    for (const uint8_t *place = places; place < places + size; place += 12) {
+        ssize_t length = number_at(place + 8, 4);
+        need(pread(files[number_at(place, 4)], bytes, length, number_at(place + 4, 4)) == length, "read");
+        need(!says || write(output, bytes, length) == length, "output");
+    }
+    report(begun);
+}
+
 static void forget_files(char **words) {
     uint64_t count = strtoull(words[1], NULL, 10);
     char path[4096];
@@ -179,6 +279,10 @@ int main(int count, char **words) {
         loop(words + 2);
     else if (count == 4 && strcmp(words[1], "read") == 0)
         read_files(words + 2);
+    else if (count == 5 && strcmp(words[1], "parse") == 0)
+        parse_files(words + 2);
+    else if (count == 6 && strcmp(words[1], "gets") == 0)
+        get_records(words + 2);
     else if (count == 4 && strcmp(words[1], "forget") == 0)
         forget_files(words + 2);
     else if (count >= 4 && strcmp(words[1], "run") == 0)

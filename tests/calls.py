@@ -125,6 +125,36 @@ def test_calls_of_puts_without_syncs(folder):
     equal(calls, wanted, "the calls")
 
 
+def test_calls_of_reads(folder):
+    """A read of a key reads its record by one call, whether the index has it or not; a key that isn't there reads nothing; and
+    a step of the index reads the older record of its key."""
+    (folder / SETTINGS_FILE).write_bytes(b"pump = 0\n")
+    script = b"put a b\nget a\nstep index\nget a\nget c\nput a 22\nget a\nstep index\nget a\n"
+    status, _, calls = calls_of(folder, script)
+    equal(status, DONE, "the status")
+    told = [call for call in calls if says(call) or call.name == "pread64" and file_of(call.path, folder) == FIRST_FILE]
+    steps = [shown(call, folder) or f"read {call.answer}" for call in told]
+    wanted = [
+        r"say b'opened 1000\n'",
+        r"say b'ok\n'",
+        "read 25",
+        r"say b'value b\n'",
+        r"say b'done\n'",
+        "read 25",
+        r"say b'value b\n'",
+        r"say b'none\n'",
+        r"say b'ok\n'",
+        "read 26",
+        r"say b'value 22\n'",
+        "read 25",
+        r"say b'done\n'",
+        "read 26",
+        r"say b'value 22\n'",
+        r"say b'stopped\n'",
+    ]
+    equal(steps, wanted, "what is read and said")
+
+
 def write_files(folder, count):
     """So many data files, each with a put of a key of its own."""
     for number in range(1, count + 1):

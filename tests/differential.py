@@ -16,6 +16,9 @@ RUNS, LINES = 6, 40
 KEYS = [b"a", b"b", b"c", b"\x00", b"%", b"two words", b"\xff\xfe", b"k" * 1024]
 VALUES = [b"", b"1", b"2", b" ", b"%.", b"\r\n", bytes(range(256))]
 
+# The lines of steps.
+STEPS = {"index": b"step index", "rotate": b"step rotate"}
+
 # Lines that are refused whatever stands before them, and how.
 REFUSED = [
     (b"", b"refused syntax"),
@@ -52,12 +55,12 @@ def said_token(data):
 
 
 class Plain:
-    """A plain map with a moment. Each method answers a command, and tells the changes that it made."""
+    """A plain map with a moment, and the parts of a store that steps work on. Each method answers a command, and tells the
+    changes that it made."""
 
-    def __init__(self, entries, moment):
+    def __init__(self, entries, moment, settings):
         self.entries, self.moment = dict(entries), moment
-        # Whether a data file is being written.
-        self.writes = False
+        self.parts = support.Parts(settings)
 
     def seen(self, key):
         """The value of a key, None where it isn't visible."""
@@ -68,8 +71,8 @@ class Plain:
         return sorted(key for key in self.entries if self.seen(key) is not None)
 
     def change(self, changes):
-        self.writes = self.writes or bool(changes)
         for key, entry in changes.items():
+            self.parts.change()
             if entry is None:
                 self.entries.pop(key, None)
             else:
@@ -126,10 +129,11 @@ class Plain:
     def sync(self):
         return b"ok", {}
 
+    def index(self):
+        return self.parts.step("index"), {}
+
     def rotate(self):
-        answer = b"done" if self.writes else b"idle"
-        self.writes = False
-        return answer, {}
+        return self.parts.step("rotate"), {}
 
     def stop(self):
         return b"stopped", {}
@@ -179,7 +183,7 @@ class Drawn:
         if name == "at":
             wanted = max(0, moment + self.choice.randrange(-3, 6))
             return [b"%d" % wanted], [wanted]
-        if name in ("size", "keys", "clear", "sync", "rotate", "stop", "halt"):
+        if name in ("size", "keys", "clear", "sync", "index", "rotate", "stop", "halt"):
             return [], []
         given = [self.key()]
         if name in ("replaceif", "removeif"):
@@ -197,8 +201,8 @@ class Drawn:
             return self.choice.choice(["stop", "halt"])
         if drawn < 0.15:
             return self.choice.choice(["size", "keys", "clear"])
-        if drawn < 0.22:
-            return self.choice.choice(["sync", "sync", "rotate"])
+        if drawn < 0.3:
+            return self.choice.choice(["sync", "sync", "index", "index", "index", "rotate"])
         kept = ["put", "putabsent", "replace", "replaceif", "get", "has", "remove", "removeif", "at"]
         return self.choice.choice(kept)
 
@@ -212,9 +216,10 @@ class Drawn:
             else:
                 name = self.name()
                 words, given = self.arguments(name, plain.moment)
-                text = b" ".join([b"step rotate" if name == "rotate" else name.encode(), *words])
+                text = b" ".join([STEPS.get(name, name.encode()), *words])
                 answer, changes = getattr(plain, name)(*given)
                 plain.change(changes)
+            plain.parts.answered()
             done.append((text, answer, changes, plain.moment))
         return done
 
@@ -239,9 +244,9 @@ def answered(lines):
 def whole_run(folder, drawn):
     """One run to its end on a folder, whatever it holds."""
     held, mark = held_in(folder)
-    synced = support.draw_settings(folder, drawn.choice)
+    settings = support.draw_settings(folder, drawn.choice)
     given = drawn.choice.randrange(20)
-    lines = drawn.lines(Plain(held, max(given, mark)))
+    lines = drawn.lines(Plain(held, max(given, mark), settings))
     status, said, errors = support.run([folder, "--at", str(given)], drawn.script(lines))
     equal((status, errors), (DONE, b""), "status and errors")
     answers = answered(lines)
@@ -250,7 +255,7 @@ def whole_run(folder, drawn):
     for text, got, want in zip(asked, said.split(b"\n"), wanted):
         equal(got, want, f"the answer to {text[:200]!r}")
     equal(said.count(b"\n"), len(wanted) - 1, "the number of answers")
-    check_left(folder, held, mark, lines[: len(answers)], answers, synced)
+    check_left(folder, held, mark, lines[: len(answers)], answers, settings.synced)
 
 
 def after(held, lines):
@@ -271,9 +276,9 @@ def promised(lines, synced):
 def killed_run(folder, drawn):
     """One run on a folder that is killed at some point. What the files have then fits what was answered."""
     held, mark = held_in(folder)
-    synced = support.draw_settings(folder, drawn.choice)
+    settings = support.draw_settings(folder, drawn.choice)
     given = drawn.choice.randrange(20)
-    lines = drawn.lines(Plain(held, max(given, mark)))
+    lines = drawn.lines(Plain(held, max(given, mark), settings))
     words = [folder, "--at", str(given)]
     least, wait = drawn.choice.randrange(len(lines) + 1), drawn.choice.random() * 0.003
     status, said = support.run_and_kill(words, drawn.script(lines), least, wait)
@@ -285,7 +290,7 @@ def killed_run(folder, drawn):
     equal(said, wanted[: len(said)], "what was said")
     # Of an answer that is longer than what the output takes at once a part may have been said.
     equal(part, wanted[len(said)][: len(part)], "the part of an answer")
-    check_left(folder, held, mark, lines[: len(answers)], said[1:], synced)
+    check_left(folder, held, mark, lines[: len(answers)], said[1:], settings.synced)
 
 
 def check_left(folder, held, mark, lines, answers, synced):

@@ -26,19 +26,21 @@ def puts_of(round):
     ]
 
 
-def lines_of(puts, choice):
-    """The lines of some puts, each with its answer and the put that it makes, if it makes one. There are lines `sync` and
-    `step rotate` between them."""
-    lines, writes = [], False
+def lines_of(puts, choice, settings):
+    """The lines of some puts, each with its answer and the put that it makes, if it makes one. There are lines `sync`,
+    `step index` and `step rotate` between them."""
+    lines, parts = [], support.Parts(settings)
     for put in puts:
         lines.append((b"put %s %s" % put, b"ok", put))
-        writes = True
+        parts.change()
+        parts.answered()
         while choice.random() < 0.15:
-            if choice.random() < 0.5:
+            kind = choice.choice(["sync", "sync", "index", "rotate", "rotate"])
+            if kind == "sync":
                 lines.append((b"sync", b"ok", None))
             else:
-                lines.append((b"step rotate", b"done" if writes else b"idle", None))
-                writes = False
+                lines.append((b"step %s" % kind.encode(), parts.step(kind), None))
+            parts.answered()
     return lines
 
 
@@ -87,8 +89,8 @@ def test_kills_at_many_points(folder):
     end = time.monotonic() + SECONDS
     held = dict.fromkeys(KEYS)
     for round in range(KILLS):
-        synced = support.draw_settings(folder, choice)
-        lines = lines_of(puts_of(round), choice)
+        settings = support.draw_settings(folder, choice)
+        lines = lines_of(puts_of(round), choice, settings)
         script = b"".join(text + b"\n" for text, *_ in lines)
         # A run is killed from the first answer on, and by then at any point within a line.
         said, is_done = killed_after(folder, script, choice.randrange(20), choice.random() * 0.002)
@@ -96,7 +98,7 @@ def test_kills_at_many_points(folder):
         answers = [*[answer for _, answer, _ in lines], b"stopped"]
         wanted = [b"opened 1000", *answers[:answered], b""]
         equal(said.split(b"\n"), wanted, "what was said")
-        least = promised(lines[:answered], synced or is_done)
+        least = promised(lines[:answered], settings.synced or is_done)
         after = held_after(held, lines[: answered + 1])[least:]
         found = read_on(folder)
         if found not in after:

@@ -1,6 +1,6 @@
 """Scripts on an empty folder: what is said, and what is written."""
 
-from support import DONE, FIRST_FILE, check_names, check_puts, check_words, equal
+from support import DAMAGED, DONE, FIRST_FILE, SPENT, check_names, check_puts, check_words, equal
 from support import log_name, spelled_file
 
 AT = ["--at", "1000"]
@@ -81,7 +81,11 @@ REPLIES = {
     b"stop x": "refused syntax",
     b"halt ": "refused syntax",
     b"sync x": "refused syntax",
+    # By then the background steps behind the lines before have taken each change that waited.
+    b"step index": "idle",
     b"step": "refused syntax",
+    b"step Index": "refused syntax",
+    b"step index 1": "refused syntax",
     b"step Rotate": "refused syntax",
     b"step rotate x": "refused syntax",
     b"step flush": "refused syntax",
@@ -116,8 +120,6 @@ DAMAGES = [
     ("01 01 00 00000000000003e8", "11 cut"),
     ("01 01 00 2000000000000000 00", "2 moment"),
 ]
-
-DAMAGED, SPENT = 4, 9
 
 # The bytes of the first file after `put a b`.
 ONE_PUT = bytes.fromhex(

@@ -1,6 +1,7 @@
 """Worked scripts whose every answer is known from elsewhere."""
 
-from support import DONE, SETTINGS_FILE, check_names, check_words, equal, log_name, set_folder
+from support import DONE, FIRST_FILE, SETTINGS_FILE
+from support import check_names, check_words, counted_frames, equal, log_name, set_folder
 
 KEY, VALUE = b"a" * 1024, b"b" * 65536
 
@@ -117,3 +118,111 @@ def test_files_that_are_closed(folder):
         (b"step rotate", "idle"),
     ])
     check_sizes(folder, [37])
+
+
+def test_steps_behind_answers(folder):
+    """Background steps leave a line nothing to do where they did its work, and change no other answer and no file. With one
+    behind each answer those of the index follow the first, the fifth and the ninth."""
+    for pump, indexed in ((0, "done"), (1, "done"), (2, "idle"), (5, "idle"), (1000, "idle")):
+        place = folder / str(pump)
+        place.mkdir()
+        set_folder(place, f"pump = {pump}\n")
+        check_answers(place, 1000, [
+            (b"step index", "idle"),
+            (b"put a b", "ok"),
+            (b"step rotate", "done"),
+            (b"step index", indexed),
+            (b"put", "refused syntax"),
+            (b"get a", "value b"),
+            (b"at 999", "refused past 1000"),
+            (b"step index", "idle"),
+            (b"step rotate", "idle"),
+        ])
+        check_sizes(place, [37])
+
+
+def test_queue_of_one(folder):
+    """Where the queue is full a change has one request taken first, so that one waits behind it."""
+    set_folder(folder, "queue = 1\npump = 0\n")
+    check_answers(folder, 1000, [
+        (b"put a 1", "ok"),
+        (b"put b 2", "ok"),
+        (b"get a", "value 1"),
+        (b"step index", "done"),
+        (b"step index", "idle"),
+        (b"get b", "value 2"),
+    ])
+
+
+def test_reads_around_index_steps(folder):
+    """A key reads as its newest change, whether the index has it, an older one, or none."""
+    set_folder(folder, "pump = 0\n")
+    check_answers(folder, 1000, [
+        (b"put a 1", "ok"),
+        (b"get a", "value 1"),
+        (b"step index", "done"),
+        (b"get a", "value 1"),
+        (b"put a 2", "ok"),
+        (b"get a", "value 2"),
+        (b"remove a", "ok"),
+        (b"step index", "done"),
+        (b"get a", "none"),
+        (b"keys", "keys"),
+        (b"step index", "done"),
+        (b"step index", "idle"),
+        (b"get a", "none"),
+        (b"keys", "keys"),
+    ])
+
+
+def test_removal_of_one_hash(folder):
+    """A key that was removed isn't there, and another one with the same hash is."""
+    set_folder(folder, "hash_bits = 0\n")
+    check_answers(folder, 1000, [
+        (b"put a 1", "ok"),
+        (b"put b 2", "ok"),
+        (b"remove a", "ok"),
+        (b"get a", "none"),
+        (b"get b", "value 2"),
+        (b"keys", "keys b"),
+    ])
+
+
+def test_middle_of_one_hash(folder):
+    """Of three keys with one hash the middle one is removed: before, between and behind the steps of the index, and in a
+    later run, the others read as they were put."""
+    reads = [(b"get a", "value 1"), (b"get b", "none"), (b"get c", "value 3"), (b"keys", "keys a c")]
+    for steps in range(5):
+        place = folder / str(steps)
+        place.mkdir()
+        set_folder(place, "hash_bits = 0\npump = 0\n")
+        check_answers(place, 1000, [
+            (b"put a 1", "ok"),
+            (b"put b 2", "ok"),
+            (b"put c 3", "ok"),
+            (b"remove b", "ok"),
+            *[(b"step index", "done")] * steps,
+            *reads,
+        ])
+        check_answers(place, 1000, [*reads, (b"step index", "idle")])
+
+
+def test_bits_of_the_hash(folder):
+    """Keys are kept apart where their hashes are the same, and a clear removes them in the order of the hashes. That of
+    `y` is below that of `x`."""
+    for bits, order in ((0, [b"x", b"y"]), (32, [b"y", b"x"])):
+        place = folder / str(bits)
+        place.mkdir()
+        set_folder(place, f"hash_bits = {bits}\n")
+        check_answers(place, 1000, [
+            (b"put x 1", "ok"),
+            (b"put y 2", "ok"),
+            (b"put a 3", "ok"),
+            (b"remove a", "ok"),
+            (b"get a", "none"),
+            (b"get y", "value 2"),
+            (b"keys", "keys x y"),
+            (b"clear", "cleared 2"),
+        ])
+        removed = [frame.records[0].key for frame in counted_frames(place / FIRST_FILE)[-2:]]
+        equal(removed, order, f"the keys that were removed with {bits} bits")

@@ -7,14 +7,11 @@ import sys
 
 import support
 from differential import said_token
-from support import DONE, NEVER, TOP, check_names, equal, log_name, spelled_put
+from support import DAMAGED, DONE, NEVER, TOP, check_names, equal, log_name, spelled_put
 
 sys.path.append(str(TOP / "tools"))
 
 import reading
-
-# The status of the program and of tools/show where a file is damaged.
-DAMAGED = 4
 
 # How many directories are drawn, and how many are checked at a time.
 DIRECTORIES, WORKERS = 1_000, 4

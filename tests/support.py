@@ -18,7 +18,7 @@ PROGRAM = str(TOP / "cache")
 LIMIT = 60
 
 # The statuses that the program ends with.
-DONE, USAGE, SETTINGS, DISK_FAILED, SCRIPT_FAILED, SAY_FAILED = 0, 2, 3, 5, 6, 7
+DONE, USAGE, SETTINGS, DAMAGED, DISK_FAILED, SCRIPT_FAILED, SAY_FAILED, SPENT = 0, 2, 3, 4, 5, 6, 7, 9
 
 # The data file that the first put of an empty folder makes.
 FIRST_FILE = "s0-0000000001.log"
@@ -26,7 +26,26 @@ FIRST_FILE = "s0-0000000001.log"
 # The settings file.
 SETTINGS_FILE = "cache.toml"
 
+# The values that tests draw for settings, where None leaves the default.
+DRAWN_SETTINGS = {
+    "file_size": [None, 4096, 5000, 16384],
+    "sync_writes": [None, "true", "false", "false"],
+    "hash_bits": [None, 0, 3, 32],
+    "queue": [None, 1, 1, 2, 3, 16, 65536],
+    "pump": [None, 0, 0, 1, 3, 5, 1000],
+}
+
+# How many requests may wait for the index, and how many background steps follow an answer, by default.
+QUEUE, PUMP = 1000, 1
+
+# The background steps come in this order, again and again.
+BACKGROUND = ["index", "flush", "compact", "reap"]
+
 NEVER = 2**64 - 1
+
+# What tests go by of the settings that were drawn: whether each write is synced, how many requests may wait for the index,
+# and how many background steps follow an answer.
+Settings = collections.namedtuple("Settings", "synced queue pump")
 
 # A record whose value is None removes its key, and has no expiry.
 Frame = collections.namedtuple("Frame", "records moment")
@@ -98,11 +117,42 @@ def set_folder(folder, text):
 
 
 def draw_settings(folder, choice):
-    """Draws the settings of a folder, the defaults among them. It tells whether writes are synced."""
-    sizes, syncs = [None, 4096, 5000, 16384], [None, "true", "false", "false"]
-    drawn = {"file_size": choice.choice(sizes), "sync_writes": choice.choice(syncs)}
-    set_folder(folder, "".join(f"{name} = {value}\n" for name, value in drawn.items() if value is not None))
-    return drawn["sync_writes"] != "false"
+    """Draws the settings of a folder, the defaults among them, and gives those that tests go by."""
+    drawn = {name: choice.choice(values) for name, values in DRAWN_SETTINGS.items()}
+    given = {name: value for name, value in drawn.items() if value is not None}
+    set_folder(folder, "".join(f"{name} = {value}\n" for name, value in given.items()))
+    return Settings(drawn["sync_writes"] != "false", given.get("queue", QUEUE), given.get("pump", PUMP))
+
+
+class Parts:
+    """What steps do in a run: how many requests wait for the index, and whether a data file is being written. The background
+    steps behind the answers are numbered through the whole run."""
+
+    def __init__(self, settings):
+        self.queue, self.pump = settings.queue, settings.pump
+        self.waiting, self.writes, self.steps = 0, False, 0
+
+    def change(self):
+        """A change was written. Where the queue was full, one request was taken first."""
+        self.waiting = min(self.waiting + 1, self.queue)
+        self.writes = True
+
+    def step(self, kind):
+        """Takes a step, and gives its answer."""
+        is_done = False
+        if kind == "index" and self.waiting:
+            self.waiting -= 1
+            is_done = True
+        if kind == "rotate" and self.writes:
+            self.writes = False
+            is_done = True
+        return b"done" if is_done else b"idle"
+
+    def answered(self):
+        """Takes the background steps behind an answer."""
+        for _ in range(self.pump):
+            self.step(BACKGROUND[self.steps % len(BACKGROUND)])
+            self.steps += 1
 
 
 def names_in(folder):
