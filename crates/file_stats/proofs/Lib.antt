@@ -1,0 +1,4 @@
+mod Descents
+mod RowLemmas
+mod Candidates
+mod Kept
