@@ -1,5 +1,5 @@
 -- What a log holds goes along with its calls.
-use Rattle.std.proofs.Common.{◌≡◌, inr, ℕ, ◌+◌, ◌≤◌, ◌<◌, true, false, Bool, List, [], ◌∷◌, ◌++◌, Option, Some, None, IsSome, is_some, refl, sym, ◌∙◌, ap, subst, arith}
+use Rattle.std.proofs.Common.{◌≡◌, ◌⊎◌, ⊎_elim, inl, inr, ℕ, ◌+◌, ◌≤◌, ◌<◌, true, false, Bool, List, [], ◌∷◌, ◌++◌, Option, Some, None, IsSome, is_some, refl, sym, ◌∙◌, ap, subst, arith}
 use Rattle.cache_model.specs.declared.files.FileName.{FileName}
 use Rattle.std.specs.Prelude.{Result, Ok, Err, IfOk, OnOk, OnErr, IsErrOf}
 use Rattle.cache_model.specs.declared.faults.StoreFault.{StoreFault}
@@ -9,19 +9,20 @@ use Rattle.cache_model.specs.Items.{Item}
 use Rattle.cache_model.specs.DataFiles.{Frame, file_spelling}
 use Rattle.cache_disk.specs.State.{HostState, Moves, SameBut, SameFiles}
 use Rattle.cache_disk.specs.State as disk
-use Rattle.cache_disk.specs.Calls.{OnFile, AllLeft}
+use Rattle.cache_disk.specs.declared.host.HostFault.{HostFault}
+use Rattle.cache_disk.specs.Calls.{OnFile, AllLeft, Deleted, Stays, SyncedNames, Unmakes}
 use Rattle.cache_disk.proofs.Runs.{Stands-left, Stands-moves, left_still}
 use Rattle.data_file.specs.declared.appender.Appender.{Appender}
-use Rattle.data_file.specs.Appending.{written, name_of, StandsFor}
+use Rattle.data_file.specs.Appending.{written, name_of, sealed, StandsFor}
 use Rattle.data_file.proofs.Frame.{stands_on as stands_on_file}
 use Rattle.data_file.proofs.Bytes.{written-none}
 use Rattle.append_log.specs.declared.log_files.LogFiles.{LogFiles}
 use Rattle.cache_model.specs.declared.replies.Turned.{Turned}
 use Rattle.cache_model.specs.declared.replies.Turned.TheVariants.{Done, Idle}
 use Rattle.append_log.specs.Calls.{IsNew, IsTurned}
-use Rattle.append_log.specs.Current.{IsNamed, IsLogOf, data_name, file_of, next_file, next_file_of, tail_by, makes_file, mark_of, is_unsealed, marked, IsFileOf, IsLogStanding}
-use Rattle.append_log.specs.Standing.{IsStanding, nothing_held, Closed, Held, Stands, IsClosedIn, IsGoneOr, AreClosedIn, AreBelow, RiseFrom, sealed_held, waits}
-use Rattle.append_log.proofs.Steps.{file_still, other_name, file_standing}
+use Rattle.append_log.specs.Current.{IsEnded, IsNamed, IsLogOf, data_name, file_of, next_file, next_file_of, tail_by, makes_file, mark_of, is_unsealed, marked, IsFileOf, IsLogStanding}
+use Rattle.append_log.specs.Standing.{IsStanding, nothing_held, Closed, Held, Stands, IsClosedIn, IsGoneOr, AreClosedIn, AreBelow, RiseFrom, last_behind, last_moment, sealed_held, waits}
+use Rattle.append_log.proofs.Steps.{cases_number, file_still, other_name, file_standing}
 
 pub waits-push : (records : List Item) (one : Item) → waits (records ++ one ∷ []) ≡ true
 waits-push [] one = refl
@@ -30,6 +31,15 @@ waits-push (item ∷ items) one = refl
 pub none_waits : (records : List Item) → waits records ≡ false → records ≡ []
 none_waits [] is = refl
 none_waits (item ∷ items) is = cc
+
+-- the last of some frames and one more
+last_behind-push : (moment : ℕ) (frames : List Frame) (one : Frame) → last_behind moment (frames ++ one ∷ []) ≡ one.moment
+last_behind-push moment [] one = refl
+last_behind-push moment (frame ∷ frames) one = last_behind-push frame.moment frames one
+
+pub last-sealed : (frames : List Frame) (records : List Item) (moment : ℕ) → last_moment (sealed frames records moment) ≡ Some moment
+last-sealed [] records moment = refl
+last-sealed (frame ∷ frames) records moment = ap (λ (n : ℕ). Some n) (last_behind-push frame.moment frames (record { records = records; moment = moment }))
 
 -- numbers
 
@@ -84,15 +94,16 @@ all_closed_on store file a b P same moves (one ∷ files) below all =
 -- calls
 
 -- a call on the current file, which is made then
-pub holds_on : (F : LogFiles) (log : Option Appender) (unsealed spoilt : Bool) (next mark : ℕ) (a b : HostState) (held : Held) (frames : List Frame) (records : List Item) (P : List ℕ → Type 0)
+pub holds_on : (F : LogFiles) (log : Option Appender) (unsealed spoilt : Bool) (last : Option ℕ) (mark : ℕ) (a b : HostState) (held : Held) (frames : List Frame) (records : List Item) (P : List ℕ → Type 0)
     → Stands F a held
     → Moves a b (OnFile (file_of F) P)
     → SameBut (file_of F) a.files b.files
     → IsLogStanding log b frames records
     → unsealed ≡ waits records
+    → last ≡ last_moment frames
     → (unsealed ≡ false → AllLeft b (λ image. file_in image (file_of F) ≡ file_in b.files (file_of F)))
-    → Stands (record F { log = log; unsealed = unsealed; spoilt = spoilt; next = next; mark = mark }) b (record { closed = held.closed; frames = frames; records = records })
-holds_on F log unsealed spoilt next mark a b held frames records P stands moves same now pending settled = record {
+    → Stands (record F { log = log; unsealed = unsealed; spoilt = spoilt; last = last; mark = mark }) b (record { closed = held.closed; frames = frames; records = records })
+holds_on F log unsealed spoilt last mark a b held frames records P stands moves same now pending ended settled = record {
   current = file_standing F.store log F.file b frames records now;
   closed = all_closed_on F.store F.file a b P same moves held.closed stands.below stands.closed;
   below = stands.below;
@@ -102,6 +113,7 @@ holds_on F log unsealed spoilt next mark a b held frames records P stands moves 
       left_still a b (OnFile (file_of F) P) (λ image. file_in image (data_name F.store n) ≡ None) moves
       (stands.absent n (behind n above)) (λ d m none step. step.others (data_name F.store n) (apart n above) ∙ none);
   pending = pending;
+  last = ended;
   rests = settled;
 }
   where
@@ -121,7 +133,7 @@ holds_sealed F a moment held is stands =
 pub holds_closed : (F : LogFiles) (log : Appender) (b : HostState) (closed : List Closed) (frames : List Frame)
     → F.log ≡ Some log → name_of log ≡ file_of F → F.unsealed ≡ false → 1 ≤ F.file
     → Stands F b (record { closed = closed; frames = frames; records = [] })
-    → Stands (record F { log = None; file = F.file + 1 }) b (record { closed = closed ++ (record { number = F.file; frames = frames }) ∷ []; frames = []; records = [] })
+    → Stands (record F { log = None; last = None; file = F.file + 1 }) b (record { closed = closed ++ (record { number = F.file; frames = frames }) ∷ []; frames = []; records = [] })
 holds_closed F log b closed frames made named sealed some stands = record {
   current = (refl, refl, absent (F.file + 1) (omega arith));
   closed = closed_more F.store b (record { number = F.file; frames = frames }) closed stands.closed (record {
@@ -135,6 +147,7 @@ holds_closed F log b closed frames made named sealed some stands = record {
   beyond = λ n above. stands.beyond n (subst (λ (l : Option Appender). next_file l F.file ≤ n) (sym made) above);
   absent = absent;
   pending = sealed;
+  last = refl;
   rests = λ is image left. absent (F.file + 1) (omega arith) image left ∙ sym (stands.beyond (F.file + 1) (omega (arith, next_most F.log F.file)));
 }
   where
@@ -189,7 +202,22 @@ holds_still F spoilt a b held still stands = record {
   beyond = λ n above. still.files (data_name F.store n) ∙ stands.beyond n above;
   absent = λ n above. Stands-left a b (λ image. file_in image (data_name F.store n) ≡ None) still (stands.absent n above);
   pending = stands.pending;
+  last = stands.last;
   rests = λ is. Stands-left a b (λ image. file_in image (file_of F) ≡ file_in b.files (file_of F)) still (λ image left. stands.rests is image left ∙ sym (still.files (file_of F)));
+}
+
+-- what is held doesn't depend on the number of the next change
+pub holds_next : (F : LogFiles) (next : ℕ) (b : HostState) (held : Held) → Stands F b held → Stands (record F { next = next }) b held
+holds_next F next b held stands = record {
+  current = stands.current;
+  closed = stands.closed;
+  below = stands.below;
+  rising = stands.rising;
+  beyond = stands.beyond;
+  absent = stands.absent;
+  pending = stands.pending;
+  last = stands.last;
+  rests = stands.rests;
 }
 
 -- a log that was just made holds nothing, where no file has its next number or a greater one
@@ -205,6 +233,7 @@ holds_new store file seq size F a new reads images = record {
   beyond = beyond;
   absent = absent;
   pending = unsealed;
+  last = subst (λ (l : Option Appender). IsEnded l F.last F.mark) none new.usable.ended;
   rests = λ is image left. absent F.file (omega (arith, least)) image left ∙ sym (beyond F.file (omega (arith, least)));
 }
   where
@@ -283,11 +312,108 @@ holds_beside F a b held step named same moves keeps stands = record {
   beyond = λ n above. same n ∙ stands.beyond n above;
   absent = λ n above. left_still a b step (λ image. file_in image (data_name F.store n) ≡ None) moves (stands.absent n above) (λ d m none took. keeps n d m took ∙ none);
   pending = stands.pending;
+  last = stands.last;
   rests = λ is.
       left_still a b step (λ image. file_in image (file_of F) ≡ file_in b.files (file_of F)) moves
       (λ image left. stands.rests is image left ∙ sym (same F.file))
       (λ d m was took. keeps F.file d m took ∙ was);
 }
+
+not_there : (found : Option (List ℕ)) → found ≡ None → IsSome found → ⊥
+not_there None is there = cc
+not_there (Some bytes) is there = cc
+
+-- what is held stays where a data file of the store that isn't the current one is deleted. An image may have the file as
+-- it was, until the names are synced.
+module _ (F : LogFiles) (n : ℕ) (a b : HostState) (step : Image → Image → Type 0)
+    (other : n ≡ F.file → ⊥)
+    (gone : file_in b.files (data_name F.store n) ≡ None)
+    (same : (m : ℕ) → (m ≡ n → ⊥) → file_in b.files (data_name F.store m) ≡ file_in a.files (data_name F.store m))
+    (moves : Moves a b step)
+    (unmade : (d c : Image) → step d c → (file_in c (data_name F.store n) ≡ file_in d (data_name F.store n)) ⊎ (file_in c (data_name F.store n) ≡ None))
+    (keeps : (m : ℕ) → (m ≡ n → ⊥) → (d c : Image) → step d c → file_in c (data_name F.store m) ≡ file_in d (data_name F.store m)) where
+  current_apart : F.file ≡ n → ⊥
+  current_apart is = other (sym is)
+
+  gone_closed : (one : Closed) → one.number ≡ n → IsClosedIn F.store a one → IsClosedIn F.store b one
+  gone_closed one is closed =
+      let none : file_in b.files (data_name F.store one.number) ≡ None = subst (λ (m : ℕ). file_in b.files (data_name F.store m) ≡ None) (sym is) gone in
+      record {
+        in_grammar = closed.in_grammar;
+        reads = inl none;
+        images = left_still a b step (λ image. IsGoneOr one.frames (file_in image (data_name F.store one.number))) moves closed.images
+            (λ d c was took.
+            ⊎_elim
+            (λ stays. subst (λ (found : Option (List ℕ)). IsGoneOr one.frames found) (sym stays) was)
+            (λ lost. inl lost)
+            (subst (λ (m : ℕ). (file_in c (data_name F.store m) ≡ file_in d (data_name F.store m)) ⊎ (file_in c (data_name F.store m) ≡ None)) (sym is) (unmade d c took)));
+        stays = λ there. absurd (not_there (file_in b.files (data_name F.store one.number)) none there);
+      }
+
+  without_closed : (files : List Closed) → AreClosedIn F.store a files → AreClosedIn F.store b files
+  without_closed [] all = tt
+  without_closed (one ∷ files) all = (
+    ⊎_elim
+        (λ is. gone_closed one is all.0)
+        (λ apart. closed_on F.store a b step one (same one.number apart) moves (keeps one.number apart) all.0)
+        (cases_number one.number n),
+    without_closed files all.1,
+  )
+
+  without_current : (log : Option Appender) (frames : List Frame) (records : List Item) → IsNamed F.store log F.file → IsFileOf F.store log F.file a frames records → IsFileOf F.store log F.file b frames records
+  without_current None frames records named is =
+      (is.0, is.1, left_still a b step (λ image. file_in image (data_name F.store F.file) ≡ None) moves is.2 (λ d c none took. keeps F.file current_apart d c took ∙ none))
+  without_current (Some log) frames records named is =
+      stands_on_file log a frames records is b step
+      (subst (λ (name : FileName). file_in b.files name ≡ file_in a.files name) (sym named) (same F.file current_apart))
+      moves
+      (λ d c took. subst (λ (name : FileName). file_in c name ≡ file_in d name) (sym named) (keeps F.file current_apart d c took))
+
+  -- a file that isn't there isn't made
+  stays_none : (m : ℕ) (d c : Image) → step d c → file_in d (data_name F.store m) ≡ None → file_in c (data_name F.store m) ≡ None
+  stays_none m d c took none =
+      ⊎_elim
+      (λ is.
+      subst (λ (k : ℕ). file_in c (data_name F.store k) ≡ None) (sym is)
+      (⊎_elim (λ stays. stays ∙ subst (λ (k : ℕ). file_in d (data_name F.store k) ≡ None) is none) (λ lost. lost) (unmade d c took)))
+      (λ apart. keeps m apart d c took ∙ none)
+      (cases_number m n)
+
+  pub holds_without : (held : Held) → IsNamed F.store F.log F.file → Stands F a held → Stands F b held
+  holds_without held named stands = record {
+    current = without_current F.log held.frames held.records named stands.current;
+    closed = without_closed held.closed stands.closed;
+    below = stands.below;
+    rising = stands.rising;
+    beyond = λ m above.
+        ⊎_elim
+        (λ is. subst (λ (k : ℕ). file_in b.files (data_name F.store k) ≡ None) (sym is) gone)
+        (λ apart. same m apart ∙ stands.beyond m above)
+        (cases_number m n);
+    absent = λ m above. left_still a b step (λ image. file_in image (data_name F.store m) ≡ None) moves (stands.absent m above) (λ d c none took. stays_none m d c took none);
+    pending = stands.pending;
+    last = stands.last;
+    rests = λ is.
+        left_still a b step (λ image. file_in image (file_of F) ≡ file_in b.files (file_of F)) moves
+        (λ image left. stands.rests is image left ∙ sym (same F.file current_apart))
+        (λ d c was took. keeps F.file current_apart d c took ∙ was);
+  }
+
+-- what a call of `delete` that answered Ok leaves
+pub holds_deleted : (F : LogFiles) (n : ℕ) (a b : HostState) (held : Held) → IsNamed F.store F.log F.file → (n ≡ F.file → ⊥)
+    → Deleted (data_name F.store n) a b (Ok tt)
+    → Stands F a held → Stands F b held
+holds_deleted F n a b held named other deleted stands =
+    holds_without F n a b (Unmakes (data_name F.store n)) other deleted.gone
+    (λ m apart. deleted.files.others (data_name F.store m) (other_name F.store n m (λ is. apart (sym is))))
+    deleted.turn.images
+    (λ d c took. took.unmade)
+    (λ m apart d c took. took.others (data_name F.store m) (other_name F.store n m (λ is. apart (sym is))))
+    held named stands
+
+-- what a call of `sync_names` leaves, whatever it answers
+pub holds_names : (F : LogFiles) (a b : HostState) (held : Held) (result : Result (Unit {0}) HostFault) → IsNamed F.store F.log F.file → SyncedNames a b result → Stands F a held → Stands F b held
+holds_names F a b held result named synced stands = holds_beside F a b held Stays named (λ n. synced.files (data_name F.store n)) synced.turn.images (λ n d m stays. stays (data_name F.store n)) stands
 
 -- where nothing waits the current file is its frames
 pub sealed_reads : (store : ℕ) (log : Option Appender) (file : ℕ) (b : HostState) (frames : List Frame) → IsNamed store log file → is_some log ≡ true → IsFileOf store log file b frames [] → file_in b.files (data_name store file) ≡ Some (written frames [])

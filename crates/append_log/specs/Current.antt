@@ -1,6 +1,6 @@
 -- The file that a log writes, and when it is closed.
 use Rattle.std.proofs.Common.{◌≡◌, ℕ, ◌+◌, ◌^◌, ◌≤◌, ◌==◌, Bool, true, false, List, [], Option, Some, None, is_some}
-use Rattle.std.specs.Prelude.{◌&&◌, nat_lt, length, if◌then◌else◌, max}
+use Rattle.std.specs.Prelude.{◌&&◌, not, nat_lt, length, if◌then◌else◌, max}
 use Rattle.cache_model.specs.declared.entries.Change.{Change}
 use Rattle.cache_model.specs.declared.faults.Spent.{Spent}
 use Rattle.cache_model.specs.declared.faults.Spent.TheVariants.{Files, Sequence}
@@ -51,6 +51,27 @@ abbrev pub IsLogStanding : Option Appender → HostState → List Frame → List
 IsLogStanding None state frames records = ⊥
 IsLogStanding (Some log) state frames records = StandsFor log state frames records
 
+-- a file that was just made has nothing but its closed gate
+abbrev pub IsNewLog : Option Appender → Type 0
+IsNewLog None = ⊥
+IsNewLog (Some log) = (size_of log ≡ 1) × (due_bytes log ≡ 1)
+
+-- there is a current file, and it has its version byte
+abbrev pub HasVersion : Option Appender → Type 0
+HasVersion None = ⊥
+HasVersion (Some log) = due_bytes log ≡ 0
+
+-- a moment, where there is one, isn't above the mark
+abbrev pub IsMarked : Option ℕ → ℕ → Type 0
+IsMarked None mark = Unit {0}
+IsMarked (Some moment) mark = moment ≤ mark
+
+-- Without a current file there is no last frame. A current file has its version byte, and the moment of its last frame
+-- isn't above the mark.
+abbrev pub IsEnded : Option Appender → Option ℕ → ℕ → Type 0
+IsEnded None last mark = last ≡ None
+IsEnded (Some log) last mark = (due_bytes log ≡ 0) × IsMarked last mark
+
 -- a record of so many bytes fits into the current file, or into one that may be made
 abbrev pub Fits : Option Appender → ℕ → ℕ → Type 0
 Fits None number size = number ≤ 4294967294
@@ -61,6 +82,16 @@ abbrev pub HasRoom : Option Appender → ℕ → Type 0
 HasRoom None size = ⊥
 HasRoom (Some log) size = size_of log + size + 10 ≤ most_file_size
 
+-- there is a current file, and the end of a frame fits
+abbrev pub HasEndRoom : Option Appender → Type 0
+HasEndRoom None = ⊥
+HasEndRoom (Some log) = size_of log + 11 ≤ most_file_size + 2
+
+-- the end of a frame fits into the current file, or into one that may be made
+abbrev pub EndFits : Option Appender → ℕ → Type 0
+EndFits None number = number ≤ 4294967294
+EndFits (Some log) number = size_of log + 11 ≤ most_file_size + 2
+
 -- the number of the next file to be made
 abbrev pub next_file : Option Appender → ℕ → ℕ
 next_file None number = number
@@ -70,6 +101,16 @@ next_file (Some log) number = number + 1
 abbrev pub is_over : Option Appender → ℕ → ℕ → Bool
 is_over None file_size size = false
 is_over (Some log) file_size size = nat_lt 1 (size_of log) && nat_lt file_size (size_of log + size + 10)
+
+-- whether an empty frame is too much for the current file, in which nothing waits
+abbrev pub is_full : Option Appender → Bool → ℕ → Bool
+is_full None unsealed file_size = false
+is_full (Some log) unsealed file_size = not unsealed && nat_lt file_size (size_of log + 10)
+
+-- whether nothing waits, and the last frame has this moment
+abbrev pub is_stamped_by : Option ℕ → Bool → ℕ → Bool
+is_stamped_by None unsealed moment = false
+is_stamped_by (Some last) unsealed moment = not unsealed && last == moment
 
 -- whether a file is made for a record, where that closes the current one or doesn't
 abbrev pub makes_file : Option Appender → Bool → Bool
@@ -115,6 +156,10 @@ next_file_of files = next_file files.log files.file
 abbrev pub mark_of : LogFiles → ℕ
 mark_of files = files.mark
 
+-- the moment of the last frame of its current file, where there is one
+abbrev pub last_of : LogFiles → Option ℕ
+last_of files = files.last
+
 -- it may be used no more
 abbrev pub is_spoilt_log : LogFiles → Bool
 is_spoilt_log files = files.spoilt
@@ -159,6 +204,7 @@ pub record IsUsable (files : LogFiles) : Type 0 where
   pub next : files.next ≤ 2 ^ 62
   pub some : 1 ≤ files.file
   pub file_size : files.file_size ≤ most_file_size
+  pub ended : IsEnded files.log files.last files.mark
 
 -- how many bytes the record of a change has
 abbrev pub record_size : LogFiles → Change → ℕ
@@ -167,6 +213,18 @@ record_size files change = length (spelling (item_by files.next change))
 -- whether a change closes the current file before its record is written
 abbrev pub closes : LogFiles → Change → Bool
 closes files change = is_over files.log files.file_size (record_size files change)
+
+-- whether a record of so many bytes closes the current file before it
+abbrev pub closes_before : LogFiles → ℕ → Bool
+closes_before files size = is_over files.log files.file_size size
+
+-- whether a stamp with this moment does nothing: nothing waits, and the current file's last frame has the moment
+abbrev pub is_stamped : LogFiles → ℕ → Bool
+is_stamped files moment = is_stamped_by files.last files.unsealed moment
+
+-- whether a stamp with this moment closes the current file: its frame would be an empty one, and too much for the file
+abbrev pub stamp_closes : LogFiles → ℕ → Bool
+stamp_closes files moment = if is_stamped files moment then false else is_full files.log files.unsealed files.file_size
 
 -- whether a file is made for a record, which closes the current one or doesn't
 abbrev pub makes_by : LogFiles → Bool → Bool
@@ -179,3 +237,7 @@ file_spent files size = if makes_file files.log (is_over files.log files.file_si
 -- the number that a change finds at its end: its own, or that of the file to be made for it
 abbrev pub spent_by : LogFiles → Change → Option Spent
 spent_by files change = if files.next == 4611686018427387904 then Some (Sequence files.next) else file_spent files (record_size files change)
+
+-- the number that a stamp finds at its end: that of the file to be made for its frame
+abbrev pub stamp_spent : LogFiles → ℕ → Option Spent
+stamp_spent files moment = if makes_by files (stamp_closes files moment) && next_file files.log files.file == 4294967295 then Some (Files 4294967295) else None

@@ -34,6 +34,16 @@ abbrev pub waits : List Item → Bool
 waits [] = false
 waits (item ∷ items) = true
 
+-- the moment of the last of some frames, behind one with this moment
+abbrev pub last_behind : ℕ → List Frame → ℕ
+last_behind moment [] = moment
+last_behind moment (frame ∷ frames) = last_behind frame.moment frames
+
+-- the moment of the last frame, where there is one
+abbrev pub last_moment : List Frame → Option ℕ
+last_moment [] = None
+last_moment (frame ∷ frames) = Some (last_behind frame.moment frames)
+
 -- a file that was closed isn't there, or has these frames and no more
 abbrev pub IsGoneOr : List Frame → Option (List ℕ) → Type 0
 IsGoneOr frames found = (found ≡ None) ⊎ (found ≡ Some (file_spelling frames))
@@ -70,6 +80,7 @@ pub record Stands (files : LogFiles) (state : HostState) (held : Held) : Type 0 
   pub beyond : (n : ℕ) → next_file_of files ≤ n → file_in state.files (data_name files.store n) ≡ None
   pub absent : (n : ℕ) → next_file_of files ≤ n → AllLeft state (λ image. file_in image (data_name files.store n) ≡ None)
   pub pending : files.unsealed ≡ waits held.records
+  pub last : files.last ≡ last_moment held.frames
   pub rests : files.unsealed ≡ false → AllLeft state (λ image. file_in image (file_of files) ≡ file_in state.files (file_of files))
 
 -- it holds something
@@ -100,6 +111,15 @@ more_held held one = record { closed = held.closed; frames = held.frames; record
 -- what is held after one record more, where the current file is closed before it or isn't
 abbrev pub put_held : Bool → Bool → ℕ → ℕ → Held → Item → Held
 put_held over unsealed number moment held one = more_held (if over then closed_held unsealed number moment held else held) one
+
+-- what is held before the frame of a stamp, where the current file, which has this number, is closed first or isn't
+abbrev pub opened_held : Bool → ℕ → ℕ → Held → Held
+opened_held over number moment held = if over then closed_held false number moment held else held
+
+-- What is held after a stamp: what waits is a frame, or an empty frame stands behind it all. Where the last frame has the
+-- moment already, it is what was held.
+abbrev pub stamped_held : Bool → Bool → ℕ → ℕ → Held → Held
+stamped_held idle over number moment held = if idle then held else sealed_held true moment (opened_held over number moment held)
 
 -- The log wrote this item: it stands at this offset of the file with this number. The current file has the number that
 -- is given.

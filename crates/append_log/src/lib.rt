@@ -6,6 +6,7 @@ mod fetching;
 mod log_calls;
 mod log_files;
 mod spending;
+mod stamping;
 mod turning;
 mod writing;
 

@@ -4,11 +4,12 @@ ghost use Rattle.cache_model.specs.declared.faults.StoreFault.TheVariants as fau
 ghost use Rattle.cache_model.specs.declared.faults.Spent.{Spent};
 ghost use Rattle.cache_model.specs.declared.replies.Turned.{Turned};
 ghost use Rattle.cache_disk.specs.Calls.{HasStoreCause};
-ghost use Rattle.cache_model.specs.Items.{IsRecord, spelling};
+ghost use Rattle.cache_model.specs.Items.{Item, IsRecord, spelling};
 ghost use Rattle.record_format.specs.Changing.{HasUntil, item_by};
-ghost use Rattle.append_log.specs.Current.{IsUsable, current_by, files_of, is_spoilt_log, is_unsealed, mark_of, most_file_size, next_file_of, next_seq_of, number_of, spent_by, store_of, tail_of};
+ghost use Rattle.data_file.specs.Appending.{IsRecordSpelling};
+ghost use Rattle.append_log.specs.Current.{IsUsable, closes_before, current_by, file_spent, files_of, is_spoilt_log, is_unsealed, mark_of, most_file_size, next_file_of, next_seq_of, number_of, spent_by, stamp_spent, store_of, tail_of};
 ghost use Rattle.append_log.specs.Standing.{Held, IsStanding, Stands, sealed_held, turned_held};
-ghost use Rattle.append_log.specs.Calls.{Goes, IsNew, IsPut, IsSealed, IsSpentBy, IsTurned, Puts, Seals, TakesNone, TakesOne};
+ghost use Rattle.append_log.specs.Calls.{Goes, IsCopied, IsNew, IsPut, IsSealed, IsSpentBy, IsStamped, IsTurned, Puts, PutsBy, Seals, Stamps, TakesFile, TakesNone, TakesOne};
 
 use crate::log_files::LogFiles;
 use cache_disk::Host;
@@ -57,6 +58,7 @@ impl Log {
                 file: next_file,
                 log: None,
                 unsealed: false,
+                last: None,
                 mark: 0,
                 file_size,
                 spoilt: false,
@@ -115,6 +117,30 @@ impl Log {
         Ok(())
     }
 
+    /// Writes a record behind the last one, with the number that it has, and says where it stands. It closes the current
+    /// file first as `put_change` does, and counts in no image before a seal either.
+    pub fn copy_item<H: Host>(
+        &mut self,
+        host: &mut H,
+        item: &[u8],
+        moment: u64,
+    ) -> Result<Place, StoreFault>
+        requires usable { IsUsable (files_of self.old) }
+        requires item { IsRecordSpelling item.now }
+        requires moment { moment < 2 ^ 61 }
+        requires stands { IsTrue H.tells → IsStanding (files_of self.old) (H.state host.old) }
+        ensures goes { Goes (files_of self.old) (files_of self.new) result }
+        ensures takes { TakesFile (files_of self.old) (files_of self.new) }
+        ensures copied { IfOk result (λ place. IsCopied (length item.now) moment (files_of self.old) (files_of self.new) place) }
+        ensures told { IsTrue H.tells → (held : Held) (one : Item) → Stands (files_of self.old) (H.state host.old) held → IsRecord one → item.now ≡ spelling one
+            → PutsBy (closes_before (files_of self.old) (length item.now)) one moment held (files_of self.old) (files_of self.new) (H.state host.old) (H.state host.new) result }
+        ensures stands { IsTrue H.tells → is_spoilt_log (files_of self.new) ≡ false → IsStanding (files_of self.new) (H.state host.new) }
+        ensures spent { IsSpentBy (file_spent (files_of self.old) (length item.now)) result }
+        ensures cause { HasStoreCause (H.state host.old) (H.state host.new) result }
+    {
+        self.files.write_checked(host, item, moment)
+    }
+
     /// Seals what waits, with this moment. Where nothing waits it does nothing.
     pub fn seal<H: Host>(&mut self, host: &mut H, moment: u64) -> Result<(), StoreFault>
         requires usable { IsUsable (files_of self.old) }
@@ -130,6 +156,27 @@ impl Log {
         ensures cause { HasStoreCause (H.state host.old) (H.state host.new) result }
     {
         self.files.seal(host, moment)
+    }
+
+    /// Seals what waits, or an empty frame where nothing does, so that every image has a counted frame with this moment.
+    /// Where the last frame of the current file has it already and nothing waits, it does nothing.
+    ///
+    /// Where an empty frame would carry the current file past the size that a file gets, the file is closed first, and the
+    /// frame goes to the next one. Where a number is spent nothing is written.
+    pub fn stamp<H: Host>(&mut self, host: &mut H, moment: u64) -> Result<(), StoreFault>
+        requires usable { IsUsable (files_of self.old) }
+        requires moment { moment < 2 ^ 61 }
+        requires stands { IsTrue H.tells → IsStanding (files_of self.old) (H.state host.old) }
+        ensures goes { Goes (files_of self.old) (files_of self.new) result }
+        ensures takes { TakesFile (files_of self.old) (files_of self.new) }
+        ensures stamped { OnOk result (IsStamped moment (files_of self.old) (files_of self.new)) }
+        ensures told { IsTrue H.tells → (held : Held) → Stands (files_of self.old) (H.state host.old) held
+            → Stamps moment held (files_of self.old) (files_of self.new) (H.state host.old) (H.state host.new) result }
+        ensures stands { IsTrue H.tells → is_spoilt_log (files_of self.new) ≡ false → IsStanding (files_of self.new) (H.state host.new) }
+        ensures spent { IsSpentBy (stamp_spent (files_of self.old) moment) result }
+        ensures cause { HasStoreCause (H.state host.old) (H.state host.new) result }
+    {
+        self.files.stamp(host, moment)
     }
 
     /// Seals what waits, and closes the current file: the next record gets a new one. Idle where there is no current

@@ -17,6 +17,8 @@ pub struct LogFiles {
     pub(crate) log: Option<Appender>,
     // whether something in it waits for a seal
     pub(crate) unsealed: bool,
+    // the moment of the last frame of the current file
+    pub(crate) last: Option<u64>,
     // the greatest moment of a frame that was sealed
     pub(crate) mark: u64,
     // how large a file gets before the next one is begun

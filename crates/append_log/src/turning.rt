@@ -8,7 +8,7 @@ ghost use Rattle.cache_disk.specs.Calls.{HasStoreCause};
 ghost use Rattle.data_file.specs.Appending.{IsRecordSpelling};
 ghost use Rattle.append_log.specs.Current.{IsUsable, Fits, file_spent, is_over, next_file};
 ghost use Rattle.append_log.specs.Standing.{Held, IsStanding, Stands, sealed_held, turned_held};
-ghost use Rattle.append_log.specs.Calls.{Goes, IsPutBy, IsSealed, IsSpentBy, IsTurned, PutsBy, Seals, TakesNone, TakesOne};
+ghost use Rattle.append_log.specs.Calls.{Goes, IsPutBy, IsSealed, IsSpentBy, IsTurned, IsWrittenBy, PutsBy, Seals, TakesFile, TakesNone, TakesOne};
 
 use crate::log_files::LogFiles;
 use cache_disk::Host;
@@ -70,56 +70,52 @@ impl LogFiles {
     }
 
     // The next file takes the place of the current one.
-    fn close(&mut self)
+    pub(crate) fn close(&mut self)
         requires usable { IsUsable self.old }
         requires there { is_some self.old.log ≡ true }
         requires sealed { self.old.unsealed ≡ false }
-        ensures rest { self.new ≡ record self.old { log = None; file = self.old.file + 1 } }
+        ensures rest { self.new ≡ record self.old { log = None; last = None; file = self.old.file + 1 } }
         ensures small { self.old.file ≤ 4294967294 }
     {
         let Some(_log) = &self.log else {
             unreachable!()
         };
         self.log = None;
+        self.last = None;
         self.file += 1;
     }
 
     // Writes a record to the current file, or to the one that is made for it.
-    fn put<H: Host>(&mut self, host: &mut H, spelled: &[u8]) -> Result<Place, StoreFault>
+    fn write<H: Host>(&mut self, host: &mut H, spelled: &[u8]) -> Result<Place, StoreFault>
         requires usable { IsUsable self.old }
-        requires next { self.old.next < 2 ^ 62 }
         requires fits { Fits self.old.log self.old.file (length spelled.now) }
         requires short { length spelled.now ≤ 66583 }
         requires spelled { IsRecordSpelling spelled.now }
         requires stands { IsTrue H.tells → IsStanding self.old (H.state host.old) }
         ensures goes { Goes self.old self.new result }
-        ensures takes { TakesOne self.old self.new }
+        ensures takes { TakesFile self.old self.new }
         ensures file { self.new.file ≡ self.old.file }
-        ensures put { (moment : ℕ) → IfOk result (λ place. IsPutBy false (length spelled.now) moment self.old self.new place) }
+        ensures written { (moment : ℕ) → IfOk result (λ place. IsWrittenBy self.old.next false (length spelled.now) moment self.old self.new place) }
         ensures told { IsTrue H.tells → (held : Held) (one : Item) (moment : ℕ) → Stands self.old (H.state host.old) held → IsRecord one → spelled.now ≡ spelling one
             → PutsBy false one moment held self.old self.new (H.state host.old) (H.state host.new) result }
         ensures unspent { (s : Spent) → IsErrOf result (fault.Spent s) → ⊥ }
         ensures cause { HasStoreCause (H.state host.old) (H.state host.new) result }
     {
         match self.log_record(host, spelled) {
-            Ok(place) => {
-                self.next += 1;
-                Ok(place)
-            }
+            Ok(place) => Ok(place),
             Err(fault) => Err(fault),
         }
     }
 
     // Closes the current file, and writes a record to the next one. Where that is refused the log is spoilt: what is
     // refused closes no file.
-    fn put_behind<H: Host>(
+    fn write_behind<H: Host>(
         &mut self,
         host: &mut H,
         spelled: &[u8],
         moment: u64,
     ) -> Result<Place, StoreFault>
         requires usable { IsUsable self.old }
-        requires next { self.old.next < 2 ^ 62 }
         requires there { is_some self.old.log ≡ true }
         requires number { next_file self.old.log self.old.file ≤ 4294967294 }
         requires short { length spelled.now ≤ 66583 }
@@ -127,8 +123,8 @@ impl LogFiles {
         requires moment { moment < 2 ^ 61 }
         requires stands { IsTrue H.tells → IsStanding self.old (H.state host.old) }
         ensures goes { Goes self.old self.new result }
-        ensures takes { TakesOne self.old self.new }
-        ensures put { IfOk result (λ place. IsPutBy true (length spelled.now) moment self.old self.new place) }
+        ensures takes { TakesFile self.old self.new }
+        ensures written { IfOk result (λ place. IsWrittenBy self.old.next true (length spelled.now) moment self.old self.new place) }
         ensures told { IsTrue H.tells → (held : Held) (one : Item) → Stands self.old (H.state host.old) held → IsRecord one → spelled.now ≡ spelling one
             → PutsBy true one moment held self.old self.new (H.state host.old) (H.state host.new) result }
         ensures unspent { (s : Spent) → IsErrOf result (fault.Spent s) → ⊥ }
@@ -137,7 +133,7 @@ impl LogFiles {
         if let Err(fault) = self.rotate(host, moment) {
             return Err(fault);
         }
-        match self.put(host, spelled) {
+        match self.write(host, spelled) {
             Ok(place) => Ok(place),
             Err(fault) => {
                 self.spoilt = true;
@@ -147,6 +143,37 @@ impl LogFiles {
     }
 
     // Writes a record, to the next file where the current one is closed before it.
+    pub(crate) fn write_checked<H: Host>(
+        &mut self,
+        host: &mut H,
+        spelled: &[u8],
+        moment: u64,
+    ) -> Result<Place, StoreFault>
+        requires usable { IsUsable self.old }
+        requires short { length spelled.now ≤ 66583 }
+        requires spelled { IsRecordSpelling spelled.now }
+        requires moment { moment < 2 ^ 61 }
+        requires stands { IsTrue H.tells → IsStanding self.old (H.state host.old) }
+        ensures goes { Goes self.old self.new result }
+        ensures takes { TakesFile self.old self.new }
+        ensures written { IfOk result (λ place. IsWrittenBy self.old.next (is_over self.old.log self.old.file_size (length spelled.now)) (length spelled.now) moment self.old self.new place) }
+        ensures told { IsTrue H.tells → (held : Held) (one : Item) → Stands self.old (H.state host.old) held → IsRecord one → spelled.now ≡ spelling one
+            → PutsBy (is_over self.old.log self.old.file_size (length spelled.now)) one moment held self.old self.new (H.state host.old) (H.state host.new) result }
+        ensures spent { IsSpentBy (file_spent self.old (length spelled.now)) result }
+        ensures cause { HasStoreCause (H.state host.old) (H.state host.new) result }
+    {
+        let over = self.is_over(spelled.len());
+        if self.is_at_end(over) {
+            self.spoilt = true;
+            return Err(StoreFault::Spent(Spent::Files(u64::from(u32::MAX))));
+        }
+        if over {
+            return self.write_behind(host, spelled, moment);
+        }
+        self.write(host, spelled)
+    }
+
+    // Writes a record that has the next number, which is taken then.
     pub(crate) fn put_checked<H: Host>(
         &mut self,
         host: &mut H,
@@ -167,14 +194,12 @@ impl LogFiles {
         ensures spent { IsSpentBy (file_spent self.old (length spelled.now)) result }
         ensures cause { HasStoreCause (H.state host.old) (H.state host.new) result }
     {
-        let over = self.is_over(spelled.len());
-        if self.is_at_end(over) {
-            self.spoilt = true;
-            return Err(StoreFault::Spent(Spent::Files(u64::from(u32::MAX))));
+        match self.write_checked(host, spelled, moment) {
+            Ok(place) => {
+                self.next += 1;
+                Ok(place)
+            }
+            Err(fault) => Err(fault),
         }
-        if over {
-            return self.put_behind(host, spelled, moment);
-        }
-        self.put(host, spelled)
     }
 }

@@ -7,8 +7,8 @@ ghost use Rattle.cache_model.specs.Files.{IsFileName, file_in};
 ghost use Rattle.cache_disk.specs.State.{SameBut, Silent, Moves, Stands};
 ghost use Rattle.cache_disk.specs.Calls.{HasStoreCause, OnFile, AllLeft};
 ghost use Rattle.data_file.specs.Appending.{IsRecordSpelling, CountsOneOf, IsFresh, IsHostly, next_place, sealed};
-ghost use Rattle.append_log.specs.Current.{IsLogOf, IsFileOf, IsLogStanding, Fits, HasRoom, data_name, next_file, tail_of};
-ghost use Rattle.append_log.specs.Calls.{sealed_tail};
+ghost use Rattle.append_log.specs.Current.{IsEnded, IsLogOf, IsFileOf, IsLogStanding, IsNewLog, EndFits, Fits, HasEndRoom, HasRoom, HasVersion, data_name, next_file, tail_of};
+ghost use Rattle.append_log.specs.Calls.{ended_tail, stamped_tail};
 
 use crate::log_files::{LogFiles, data_name};
 use cache_disk::{Host, HostFault};
@@ -28,6 +28,7 @@ impl LogFiles {
         ensures spoilt { OnErr result (self.new.spoilt ≡ true) }
         ensures usable { OnOk result (IsLogOf self.new.store self.new.log self.new.file self.new.unsealed) }
         ensures made { OnOk result (next_file self.new.log self.new.file ≡ self.new.file + 1) }
+        ensures new { OnOk result (IsNewLog self.new.log) }
         ensures room { (size : ℕ) → size ≤ 66583 → OnOk result (HasRoom self.new.log size) }
         ensures stands { IsTrue H.tells → OnOk result (IsLogStanding self.new.log (H.state host.new) [] []) }
         ensures images { IsTrue H.tells → Moves (H.state host.old) (H.state host.new) (OnFile name (CountsFrames [])) }
@@ -56,6 +57,7 @@ impl LogFiles {
         ensures memory { OnErr result (self.new.spoilt ≡ false → IsErrOf result fault.Memory) }
         ensures usable { OnOk result (IsLogOf self.new.store self.new.log self.new.file self.new.unsealed) }
         ensures made { OnOk result (next_file self.new.log self.new.file ≡ self.new.file + 1) }
+        ensures new { OnOk result (is_some self.old.log ≡ false → IsNewLog self.new.log) }
         ensures room { (size : ℕ) → size ≤ 66583 → Fits self.old.log self.old.file size → OnOk result (HasRoom self.new.log size) }
         ensures stands { IsTrue H.tells → (frames : List Frame) (records : List Item)
             → IsFileOf self.old.store self.old.log self.old.file (H.state host.old) frames records
@@ -98,6 +100,7 @@ impl LogFiles {
             → IfOk result (λ place. place.at ≡ next_place frames records) }
         ensures unsealed { OnOk result (self.new.unsealed ≡ true) }
         ensures usable { self.new.spoilt ≡ false → IsLogOf self.new.store self.new.log self.new.file self.new.unsealed }
+        ensures begun { OnOk result (HasVersion self.new.log) }
         ensures made { next_file self.new.log self.new.file ≡ self.new.file + 1 }
         ensures failed { OnErr result (self.new.spoilt ≡ false → self.new ≡ self.old) }
         ensures kept { IsTrue H.tells → OnErr result (self.new.spoilt ≡ false → Stands (H.state host.old) (H.state host.new)) }
@@ -139,6 +142,7 @@ impl LogFiles {
         requires usable { IsLogOf self.old.store self.old.log self.old.file self.old.unsealed }
         requires some { 1 ≤ self.old.file }
         requires fits { Fits self.old.log self.old.file (length spelled.now) }
+        requires ended { IsEnded self.old.log self.old.last self.old.mark }
         requires short { length spelled.now ≤ 66583 }
         requires spelled { IsRecordSpelling spelled.now }
         requires stands { IsTrue H.tells → (frames : List Frame) × (records : List Item) × IsFileOf self.old.store self.old.log self.old.file (H.state host.old) frames records }
@@ -151,6 +155,7 @@ impl LogFiles {
             → IfOk result (λ place. place.at ≡ next_place frames records) }
         ensures unsealed { OnOk result (self.new.unsealed ≡ true) }
         ensures usable { self.new.spoilt ≡ false → IsLogOf self.new.store self.new.log self.new.file self.new.unsealed }
+        ensures ended { OnOk result (IsEnded self.new.log self.new.last self.new.mark) }
         ensures made { next_file self.new.log self.new.file ≤ next_file self.old.log self.old.file + 1 }
         ensures later { next_file self.old.log self.old.file ≤ next_file self.new.log self.new.file }
         ensures current { OnOk result (next_file self.new.log self.new.file ≡ self.new.file + 1) }
@@ -183,20 +188,22 @@ impl LogFiles {
         }
     }
 
-    // Ends the frame in the making.
+    // Ends the frame in the making, or an empty one where nothing waits, in the current file, which is made.
     pub(crate) fn seal_log<H: Host>(&mut self, host: &mut H, moment: u64) -> Result<(), StoreFault>
         requires sound { self.old.spoilt ≡ false }
         requires usable { IsLogOf self.old.store self.old.log self.old.file self.old.unsealed }
-        requires unsealed { self.old.unsealed ≡ true }
+        requires room { HasEndRoom self.old.log }
         requires moment { moment < 2 ^ 61 }
         requires stands { IsTrue H.tells → (frames : List Frame) × (records : List Item) × IsFileOf self.old.store self.old.log self.old.file (H.state host.old) frames records }
-        ensures rest { self.new ≡ record self.old { log = self.new.log; unsealed = self.new.unsealed; mark = self.new.mark; spoilt = self.new.spoilt } }
+        ensures rest { self.new ≡ record self.old { log = self.new.log; unsealed = self.new.unsealed; last = self.new.last; mark = self.new.mark; spoilt = self.new.spoilt } }
         ensures sound { OnOk result (self.new.spoilt ≡ false) }
         ensures unsealed { OnOk result (self.new.unsealed ≡ false) }
         ensures usable { self.new.spoilt ≡ false → IsLogOf self.new.store self.new.log self.new.file self.new.unsealed }
         ensures made { next_file self.new.log self.new.file ≡ next_file self.old.log self.old.file }
-        ensures tail { OnOk result (tail_of self.new ≡ sealed_tail (tail_of self.old)) }
+        ensures tail { OnOk result (tail_of self.new ≡ ended_tail self.old.log self.old.file) }
+        ensures last { OnOk result (self.new.last ≡ Some moment) }
         ensures mark { OnOk result (self.new.mark ≡ max self.old.mark moment) }
+        ensures ended { OnOk result (IsEnded self.new.log self.new.last self.new.mark) }
         ensures there { is_some self.new.log ≡ is_some self.old.log }
         ensures failed { OnErr result (self.new.spoilt ≡ false → self.new ≡ self.old) }
         ensures kept { IsTrue H.tells → OnErr result (self.new.spoilt ≡ false → Stands (H.state host.old) (H.state host.new)) }
@@ -222,7 +229,61 @@ impl LogFiles {
             return Err(fault);
         }
         self.unsealed = false;
+        self.last = Some(moment);
         self.mark = self.mark.max(moment);
         Ok(())
+    }
+
+    // Ends a frame in the current file, which is made first where it isn't yet. Where memory is wanted once it was made, the
+    // log is spoilt: what is refused makes no file.
+    pub(crate) fn end_log<H: Host>(&mut self, host: &mut H, moment: u64) -> Result<(), StoreFault>
+        requires sound { self.old.spoilt ≡ false }
+        requires usable { IsLogOf self.old.store self.old.log self.old.file self.old.unsealed }
+        requires some { 1 ≤ self.old.file }
+        requires fits { EndFits self.old.log self.old.file }
+        requires ended { IsEnded self.old.log self.old.last self.old.mark }
+        requires moment { moment < 2 ^ 61 }
+        requires stands { IsTrue H.tells → (frames : List Frame) × (records : List Item) × IsFileOf self.old.store self.old.log self.old.file (H.state host.old) frames records }
+        ensures rest { self.new ≡ record self.old { log = self.new.log; unsealed = self.new.unsealed; last = self.new.last; mark = self.new.mark; spoilt = self.new.spoilt } }
+        ensures sound { OnOk result (self.new.spoilt ≡ false) }
+        ensures unsealed { OnOk result (self.new.unsealed ≡ false) }
+        ensures usable { self.new.spoilt ≡ false → IsLogOf self.new.store self.new.log self.new.file self.new.unsealed }
+        ensures made { next_file self.new.log self.new.file ≤ next_file self.old.log self.old.file + 1 }
+        ensures later { next_file self.old.log self.old.file ≤ next_file self.new.log self.new.file }
+        ensures current { OnOk result (next_file self.new.log self.new.file ≡ self.new.file + 1) }
+        ensures there { OnOk result (is_some self.new.log ≡ true) }
+        ensures tail { OnOk result (tail_of self.new ≡ stamped_tail false false self.old.file (tail_of self.old)) }
+        ensures last { OnOk result (self.new.last ≡ Some moment) }
+        ensures mark { OnOk result (self.new.mark ≡ max self.old.mark moment) }
+        ensures ended { OnOk result (IsEnded self.new.log self.new.last self.new.mark) }
+        ensures failed { OnErr result (self.new.spoilt ≡ false → self.new ≡ self.old) }
+        ensures kept { IsTrue H.tells → OnErr result (self.new.spoilt ≡ false → Stands (H.state host.old) (H.state host.new)) }
+        ensures memory { OnErr result (self.new.spoilt ≡ false → IsErrOf result fault.Memory) }
+        ensures stands { IsTrue H.tells → (frames : List Frame) (records : List Item)
+            → IsFileOf self.old.store self.old.log self.old.file (H.state host.old) frames records
+            → OnOk result (IsLogStanding self.new.log (H.state host.new) (sealed frames records moment) []) }
+        ensures settled { IsTrue H.tells → OnOk result (AllLeft (H.state host.new) (λ image. file_in image (data_name self.old.store self.old.file) ≡ file_in (H.state host.new).files (data_name self.old.store self.old.file))) }
+        ensures images { IsTrue H.tells → (frames : List Frame) (records : List Item)
+            → IsFileOf self.old.store self.old.log self.old.file (H.state host.old) frames records
+            → Moves (H.state host.old) (H.state host.new)
+            (OnFile (data_name self.old.store self.old.file) (CountsOneOf frames (sealed frames records moment))) }
+        ensures faults { IfErr result IsHostly }
+        ensures others { IsTrue H.tells → SameBut (data_name self.old.store self.old.file) (H.state host.old).files (H.state host.new).files }
+        ensures silent { IsTrue H.tells → Silent (H.state host.old) (H.state host.new) }
+        ensures cause { HasStoreCause (H.state host.old) (H.state host.new) result }
+    {
+        if self.log.is_some() {
+            return self.seal_log(host, moment);
+        }
+        if let Err(fault) = self.make_log(host) {
+            return Err(fault);
+        }
+        match self.seal_log(host, moment) {
+            Ok(()) => Ok(()),
+            Err(fault) => {
+                self.spoilt = true;
+                Err(fault)
+            }
+        }
     }
 }

@@ -9,6 +9,7 @@ use Rattle.cache_disk.specs.State.{HostState, SameFiles}
 use Rattle.cache_disk.specs.Calls.{AllLeft}
 use Rattle.data_file.specs.declared.appender.Appender.{Appender}
 use Rattle.data_file.proofs.Frame.{placed_of}
+use Rattle.append_log.specs.Current.{IsEnded}
 use Rattle.append_log.specs.Standing.{Stands as HoldsFiles, nothing_held}
 use Rattle.file_stats.specs.declared.file_list.Found.{Found}
 use Rattle.tree_index.specs.Index.{Index}
@@ -71,6 +72,7 @@ module _ (a b : HostState) (found : Found) (tree : Index) (settings : Settings) 
     beyond = λ n late. there n ∙ beyond n (omega (arith, late, first));
     absent = λ n late image left. images image left n ∙ beyond n (omega (arith, late, first));
     pending = made.unsealed;
+    last = subst (λ (log : Option Appender). IsEnded log (main_files store).last (main_files store).mark) made.made made.usable.log.ended;
     rests = λ is image left. images image left (number store) ∙ sym (there (number store));
   }
 

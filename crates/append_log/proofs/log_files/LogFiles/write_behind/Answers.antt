@@ -11,34 +11,34 @@ use Rattle.append_log.specs.Current.{closed_frames, data_name, file_of, file_beh
 use Rattle.append_log.specs.Standing.{Stands, closed_held, turned_held}
 use Rattle.append_log.proofs.Holding.{turned_done, turned_mark, makes_over, next_most, some_next}
 use Rattle.append_log.proofs.Steps.{before_name, beside_both, counts_now, current_alone, is_named, on_both, on_closed, same_alone}
-use Rattle.append_log.proofs.log_files.LogFiles.put_behind.Goals as goal
+use Rattle.append_log.proofs.log_files.LogFiles.write_behind.Goals as goal
 
-pub put-requires-clause-stands : goal.put-requires-clause-stands
-put-requires-clause-stands g c told =
+pub write-requires-clause-stands : goal.write-requires-clause-stands
+write-requires-clause-stands g c told =
     let stands = c.requires.stands told in
     let first = c.in_default.ensures.told told stands.0 stands.1 in
     (turned_held c.in_default.field-0 c.args.self.now.unsealed c.args.self.now.file c.args.moment stands.0, first.stands)
 
-pub returns-in-Ok-clause-put : goal.returns-in-Ok-clause-put
-returns-in-Ok-clause-put g c =
+pub returns-in-Ok-clause-written : goal.returns-in-Ok-clause-written
+returns-in-Ok-clause-written g c =
     let old = c.args.self.now in
     let mid = c.rotate.new.self in
-    let last = c.put.new.self in
-    let put = c.in-Ok.ensures.put c.args.moment in
+    let last = c.write.new.self in
+    let written = c.in-Ok.ensures.written c.args.moment in
     let takes = c.rotate.ensures.takes in
     let turned = c.in_default.ensures.turned in
     let done = turned_done c.in_default.field-0 c.args.moment old mid c.requires.there turned in
     record {
-      next_seq = put.next_seq ∙ ap (λ (n : ℕ). n + 1) takes.0;
+      next_seq = written.next_seq ∙ takes.0;
       next_file =
-          put.next_file
+          written.next_file
           ∙ ap (λ (l : Option Appender). if makes_file l false then next_file_of mid + 1 else next_file_of mid) c.in_default.ensures.closed
           ∙ ap (λ (n : ℕ). n + 1) takes.1
           ∙ ap (λ (b : Bool). if b then next_file_of old + 1 else next_file_of old) (sym (makes_over old.log c.requires.there));
-      file = put.file;
-      length_is = put.length_is;
-      tail = put.tail;
-      mark = put.mark ∙ turned_mark c.in_default.field-0 c.args.moment old mid done turned;
+      file = written.file;
+      length_is = written.length_is;
+      tail = written.tail;
+      mark = written.mark ∙ turned_mark c.in_default.field-0 c.args.moment old mid done turned;
     }
 
 pub returns-in-Err-clause-told : goal.returns-in-Err-clause-told
@@ -66,10 +66,10 @@ pub returns-in-Ok-clause-told : goal.returns-in-Ok-clause-told
 returns-in-Ok-clause-told g c told held one stands is spelled =
     let old = c.args.self.now in
     let mid = c.rotate.new.self in
-    let last = c.put.new.self in
+    let last = c.write.new.self in
     let a = g.H.Host.state c.args.host.now in
     let b = g.H.Host.state c.rotate.new.host in
-    let d = g.H.Host.state c.put.new.host in
+    let d = g.H.Host.state c.write.new.host in
     let first = c.in_default.ensures.told told held stands in
     let more = closed_frames old.unsealed held.frames held.records c.args.moment in
     let after = closed_held old.unsealed old.file c.args.moment held in
@@ -94,20 +94,20 @@ returns-in-Ok-clause-told g c told held one stands is spelled =
       refused = tt;
     }
 
-pub returns-in-Err-put-clause-told : goal.returns-in-Err-put-clause-told
-returns-in-Err-put-clause-told g c told held one stands is spelled =
+pub returns-in-Err-write-clause-told : goal.returns-in-Err-write-clause-told
+returns-in-Err-write-clause-told g c told held one stands is spelled =
     let old = c.args.self.now in
     let mid = c.rotate.new.self in
-    let last = c.put.new.self in
+    let last = c.write.new.self in
     let a = g.H.Host.state c.args.host.now in
     let b = g.H.Host.state c.rotate.new.host in
-    let d = g.H.Host.state c.put.new.host in
+    let d = g.H.Host.state c.write.new.host in
     let first = c.in_default.ensures.told told held stands in
     let more = closed_frames old.unsealed held.frames held.records c.args.moment in
     let after = closed_held old.unsealed old.file c.args.moment held in
     let done = turned_done c.in_default.field-0 c.args.moment old mid c.requires.there c.in_default.ensures.turned in
     let mid_stands : Stands mid b after = subst (λ (t : Turned). Stands mid b (turned_held t old.unsealed old.file c.args.moment held)) done first.stands in
-    let second = c.in-Err-put.ensures.told told after one c.args.moment mid_stands is spelled in
+    let second = c.in-Err-write.ensures.told told after one c.args.moment mid_stands is spelled in
     let name : file_of mid ≡ file_behind old = ap (λ (s : ℕ). data_name s mid.file) c.rotate.ensures.goes.store ∙ ap (λ (n : ℕ). data_name old.store n) (c.in_default.ensures.number ∙ some_next old.log old.file c.requires.there) in
     record {
       stands = tt;
@@ -120,6 +120,6 @@ returns-in-Err-put-clause-told g c told held one stands is spelled =
       files = beside_both old a.files b.files d.files first.files (subst (λ (n : FileName). SameBut n b.files d.files) name (same_alone mid b.files d.files second.files));
       closed = tt;
       silent = Silent-trans a b d first.images.later second.images.later first.silent second.silent;
-      spent = λ s err. absurd (c.put.ensures.unspent s cc);
+      spent = λ s err. absurd (c.write.ensures.unspent s cc);
       refused = λ sound. let no : true ≡ false = sound in cc;
     }
