@@ -1,2 +1,6 @@
-pub mod Changes
-pub mod Walks
+pub mod Changing
+pub mod Flat
+pub mod Keys
+pub mod Nexts
+pub mod Ordered
+pub mod Rewriting

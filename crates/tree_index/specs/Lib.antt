@@ -1,2 +1,4 @@
 pub mod Index
+pub mod Kept
+pub mod Rows
 pub mod Starts

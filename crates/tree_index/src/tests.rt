@@ -1,5 +1,5 @@
 // What each call answers, and a drawn run of calls beside a plain list.
-ghost use Rattle.std.specs.Prelude.{◌<◌, IfOk};
+ghost use Rattle.std.specs.Prelude.{◌<◌, ◌≤◌, IfOk};
 
 use crate::Tree;
 use cache_model::{IndexKey, IndexValue};
@@ -221,7 +221,25 @@ fn of_hash(alloc: Global, rows: &[Row], hash: u32) -> Result<Vec<Row>, Fail> {
     Ok(kept)
 }
 
-/// One drawn change of a tree, and the list as it is then.
+/// An insert into a tree. Where it is refused memory, the tree still gives the rows of its list.
+fn put(
+    rt: &impl Abort,
+    alloc: Global,
+    tree: &mut Tree,
+    host: &mut MemoryHost,
+    rows: &[Row],
+    entry: Row,
+) -> Result<Option<IndexValue>, Fail> {
+    match tree.insert(host, entry.0, entry.1) {
+        Ok(before) => Ok(before),
+        Err(fault) => {
+            gives(rt, alloc, tree, host, rows, entry.0)?;
+            Err(Fail::from(fault))
+        }
+    }
+}
+
+/// One change of a tree, and the list as it is then.
 fn change(
     rt: &impl Abort,
     alloc: Global,
@@ -232,7 +250,7 @@ fn change(
 ) -> Result<Vec<Row>, Fail> {
     let (key, value) = drawn;
     let before = match value {
-        Some(value) => tree.insert(host, key, value)?,
+        Some(value) => put(rt, alloc, tree, host, rows, (key, value))?,
         None => tree.remove(host, key)?,
     };
     assert!(rt; before == held(rows, key), "{drawn:?}: {before:?}");
@@ -286,6 +304,52 @@ fn run_holds(rt: &impl Abort, alloc: Global, hashes: u32) -> Result<(), Fail>
 fn drawn_calls_answer_as_a_list_does(rt: HostRuntime) -> Result<(), Fail> {
     for hashes in [1, 5] {
         run_holds(&rt, rt.alloc(), hashes)?;
+    }
+    Ok(())
+}
+
+/// The keys of one hash, in which order each is taken out.
+const ORDERS: [[Key; 3]; 6] = [
+    [(7, 1, 1), (7, 1, 2), (7, 2, 0)],
+    [(7, 1, 1), (7, 2, 0), (7, 1, 2)],
+    [(7, 1, 2), (7, 1, 1), (7, 2, 0)],
+    [(7, 1, 2), (7, 2, 0), (7, 1, 1)],
+    [(7, 2, 0), (7, 1, 1), (7, 1, 2)],
+    [(7, 2, 0), (7, 1, 2), (7, 1, 1)],
+];
+
+/// Keys of one hash come in an order, between those of two others, and go in each order.
+fn come_and_go(rt: &impl Abort, alloc: Global, bits: u32, come: &[Key; 3]) -> Result<(), Fail>
+    requires { bits ≤ 32 }
+{
+    let mut host = host_of(alloc)?;
+    let mut tree = Tree::make(alloc, &mut host, 0, bits, 8)?;
+    let mut rows = Vec::new(alloc);
+    for key in [(6, 3, 3), (8, 0, 0)] {
+        let entry = (key_of(key), Some(value_of((9, 1, false))));
+        rows = change(rt, alloc, &mut tree, &mut host, &rows, entry)?;
+    }
+    for go in &ORDERS {
+        for key in come {
+            let entry = (key_of(*key), Some(value_of((key.2, 2, true))));
+            rows = change(rt, alloc, &mut tree, &mut host, &rows, entry)?;
+            gives(rt, alloc, &mut tree, &mut host, &rows, key_of(*key))?;
+        }
+        for key in go {
+            rows = change(rt, alloc, &mut tree, &mut host, &rows, (key_of(*key), None))?;
+            gives(rt, alloc, &mut tree, &mut host, &rows, key_of(*key))?;
+        }
+    }
+    assert!(rt; rows.len() == 2 && tree.hash_bits() == bits);
+    Ok(())
+}
+
+#[test]
+fn keys_of_one_hash_come_and_go(rt: HostRuntime) -> Result<(), Fail> {
+    for bits in [0, 32] {
+        for come in &ORDERS {
+            come_and_go(&rt, rt.alloc(), bits, come)?;
+        }
     }
     Ok(())
 }

@@ -1,25 +1,22 @@
-// The index, as an ordered map in memory.
-ghost use Rattle.std.specs.Prelude.{◌≡◌, ◌≤◌, [], IfOk, IfErr, OnOk, OnErr, Some, None, option_map, false};
-ghost use Rattle.std.specs.Range.Bound.{bound_map};
+// The index: rows under the hashes of keys, in memory.
+ghost use Rattle.std.specs.Prelude.{◌≡◌, ◌≤◌, [], IfOk, IfErr, OnOk, OnErr, Some, None, false};
 ghost use Rattle.cache_model.specs.declared.faults.StoreFault.TheVariants.{Memory};
-ghost use Rattle.std.specs.BTreeMap.{Updates, IsOrdered};
-ghost use Rattle.tree_index.specs.Index.{entries_of, index_cmp, value_at, AreOrdered, IsNext, Sets};
-ghost use Rattle.tree_index.specs.Starts.{start_after};
+ghost use Rattle.tree_index.specs.Index.{entries_of, value_at, AreOrdered, IsNext, Sets};
 
+use crate::rows::{Rows, entries_of, next, put, take};
 use cache_disk::Host;
 use cache_model::{IndexKey, IndexValue, StoreFault};
 use std::alloc::Global;
 use std::collections::BTreeMap;
 use std::marker::Model;
-use std::ops::Bound;
 
-/// An index: an ordered map from `IndexKey` to `IndexValue`. It is held in memory for now, so that it makes no file and
-/// calls no host; a call that wants memory and gets none leaves it as it was.
+/// An index: an ordered map from `IndexKey` to `IndexValue`, with a row for each hash. It is held in memory for now, so
+/// that it makes no file and calls no host; a call that wants memory and gets none leaves it as it was.
 #[derive(Drop)]
 pub struct Tree {
     alloc: Global,
     bits: u32,
-    entries: BTreeMap<IndexKey, IndexValue>,
+    rows: Rows,
 }
 
 impl Model for Tree {
@@ -27,76 +24,11 @@ impl Model for Tree {
 
     ghost Value = { Index };
 
-    ghost view = { λ tree. record { bits = tree.bits; entries = tree.entries.entries } };
-}
+    ghost use Rattle.tree_index.specs.Kept.{index_of, IsKeptWell};
 
-// Where the keys above one begin, or all.
-fn start_after(after: Option<&IndexKey>) -> Bound<&IndexKey>
-    ensures { bound_map (λ key. key.now) result ≡ start_after (option_map (λ key. key.now) after.entry) }
-{
-    match after {
-        Some(after) => Bound::Excluded(after),
-        None => Bound::Unbounded,
-    }
-}
+    ghost view = { index_of };
 
-// The least entry above a key, or of all.
-fn next_of(
-    entries: &BTreeMap<IndexKey, IndexValue>,
-    after: Option<IndexKey>,
-) -> Option<(IndexKey, IndexValue)>
-    ensures { IsNext entries.now.entries after result }
-{
-    let mut above = entries.range((start_after(after.as_ref()), Bound::Unbounded));
-    match above.next() {
-        Some((key, value)) => Some((*key, *value)),
-        None => None,
-    }
-}
-
-// The entries of one hash.
-fn entries_of(
-    alloc: Global,
-    entries: &BTreeMap<IndexKey, IndexValue>,
-    hash: u32,
-) -> Result<Vec<(IndexKey, IndexValue)>, StoreFault>
-    ensures found { IfOk result (λ found. found.items ≡ entries_of hash entries.now.entries) }
-    ensures ordered { AreOrdered entries.now.entries }
-    ensures memory { IfErr result (λ fault. fault ≡ Memory) }
-{
-    let first = IndexKey {
-        hash,
-        file: 0,
-        at: 0,
-    };
-    let mut found = Vec::new(alloc);
-    for (key, value) in entries.range((Bound::Included(&first), Bound::Unbounded)) {
-        if key.hash != hash {
-            return Ok(found);
-        }
-        if found.push((*key, *value)).is_err() {
-            return Err(StoreFault::Memory);
-        }
-    }
-    Ok(found)
-}
-
-// Puts a value under a key, and gives the one that it takes the place of.
-fn put(
-    entries: &mut BTreeMap<IndexKey, IndexValue>,
-    key: IndexKey,
-    value: IndexValue,
-) -> Result<Option<IndexValue>, StoreFault>
-    ensures before { IfOk result (λ before. before ≡ value_at entries.old.entries key) }
-    ensures updates { OnOk result (Updates index_cmp entries.old entries.new key (Some value)) }
-    ensures ordered { IsOrdered index_cmp entries.new }
-    ensures same { OnErr result (entries.new.entries ≡ entries.old.entries) }
-    ensures memory { IfErr result (λ fault. fault ≡ Memory) }
-{
-    match entries.insert(key, value) {
-        Ok(before) => Ok(before),
-        Err(_) => Err(StoreFault::Memory),
-    }
+    ghost invariant = { IsKeptWell };
 }
 
 impl Tree {
@@ -117,7 +49,7 @@ impl Tree {
         Ok(Tree {
             alloc,
             bits,
-            entries: BTreeMap::new(alloc),
+            rows: BTreeMap::new(alloc),
         })
     }
 
@@ -154,7 +86,7 @@ impl Tree {
         ensures memory { IfErr result (λ fault. fault ≡ Memory) }
         ensures untouched { _host.new ≡ _host.old }
     {
-        entries_of(self.alloc, &self.entries, hash)
+        entries_of(self.alloc, &self.rows, hash)
     }
 
     /// Puts a value under a key, and gives the one that it takes the place of.
@@ -170,7 +102,7 @@ impl Tree {
         ensures memory { IfErr result (λ fault. fault ≡ Memory) }
         ensures untouched { _host.new ≡ _host.old }
     {
-        put(&mut self.entries, key, value)
+        put(self.alloc, &mut self.rows, key, value)
     }
 
     /// Takes the entry of a key away, where there is one, and gives its value.
@@ -185,7 +117,7 @@ impl Tree {
         ensures memory { IfErr result (λ fault. fault ≡ Memory) }
         ensures untouched { _host.new ≡ _host.old }
     {
-        Ok(self.entries.remove(&key))
+        Ok(take(&mut self.rows, key))
     }
 
     /// The least entry above a key, or of all.
@@ -199,6 +131,6 @@ impl Tree {
         ensures memory { IfErr result (λ fault. fault ≡ Memory) }
         ensures untouched { _host.new ≡ _host.old }
     {
-        Ok(next_of(&self.entries, after))
+        Ok(next(&self.rows, after))
     }
 }
