@@ -9,7 +9,7 @@ use Rattle.std.specs.Str.Parse.{digits_value}
 use Rattle.cache_model.specs.declared.entries.Lifespan.{Lifespan}
 use Rattle.cache_model.specs.declared.entries.Lifespan.TheVariants.{Endless, Of}
 use Rattle.cache_model.specs.declared.commands.Command.{Command}
-use Rattle.cache_model.specs.declared.commands.Command.TheVariants.{At, Put, PutAbsent, Replace, ReplaceIf, Get, Has, Remove, RemoveIf, Size, Keys, Clear, Step, Evict, Sync, Stop, Halt}
+use Rattle.cache_model.specs.declared.commands.Command.TheVariants.{At, Put, PutAbsent, Replace, ReplaceIf, Get, Has, Remove, RemoveIf, Size, Keys, Clear, Step, Evict, Sync, Stats, Stop, Halt}
 use Rattle.cache_model.specs.declared.commands.StepKind.{StepKind}
 use Rattle.cache_model.specs.declared.commands.StepKind.TheVariants.{Index, Rotate}
 use Rattle.cache_model.specs.Replies.{Refusal, long, syntax, key_length, value_length, ttl}
@@ -134,6 +134,7 @@ command_rows =
     ∷ (codes "clear", takes_nothing Clear)
     ∷ (codes "step", takes_step)
     ∷ (codes "sync", takes_nothing Sync)
+    ∷ (codes "stats", takes_nothing Stats)
     ∷ (codes "stop", takes_nothing Stop)
     ∷ (codes "halt", takes_nothing Halt)
     ∷ []
