@@ -4,7 +4,7 @@ use Rattle.std.specs.Prelude.{IfOk, if◌then◌else◌, option_map, option_and_
 use Rattle.std.specs.Map.{lookup}
 use Rattle.std.specs.Str.{bytes_eq}
 use Rattle.cache_model.specs.declared.commands.Command.{Command}
-use Rattle.cache_model.specs.declared.commands.Command.TheVariants.{At, Put, PutAbsent, Replace, ReplaceIf, Get, Has, Remove, RemoveIf, Size, Keys, Clear, Step, Sync, Stop, Halt}
+use Rattle.cache_model.specs.declared.commands.Command.TheVariants.{At, Put, PutAbsent, Replace, ReplaceIf, Get, Has, Remove, RemoveIf, Size, Keys, Clear, Step, Sync, Stats, Stop, Halt}
 use Rattle.cache_model.specs.declared.entries.Lifespan.{Lifespan}
 use Rattle.cache_model.specs.Replies.{Refusal}
 use Rattle.cache_model.specs.Tokens.{token_value}
@@ -94,7 +94,7 @@ by_rows (row ∷ rows) known name words command h = by (bytes_eq name row.0) (by
 rows_known : (name : List ℕ) → GivesKnown (row_command command_rows name)
 rows_known name =
     by_rows command_rows
-    (moment_known At (λ n. tt), (entry_known Put (λ k v l. tt), (entry_known PutAbsent (λ k v l. tt), (entry_known Replace (λ k v l. tt), (exchange_known ReplaceIf (λ k o v l. tt), (key_known Get (λ k. tt), (key_known Has (λ k. tt), (key_known Remove (λ k. tt), (key_value_known RemoveIf (λ k v. tt), (nothing_known Size tt, (nothing_known Keys tt, (nothing_known Clear tt, (step_known, (nothing_known Sync tt, (nothing_known Stop tt, (nothing_known Halt tt, tt))))))))))))))))
+    (moment_known At (λ n. tt), (entry_known Put (λ k v l. tt), (entry_known PutAbsent (λ k v l. tt), (entry_known Replace (λ k v l. tt), (exchange_known ReplaceIf (λ k o v l. tt), (key_known Get (λ k. tt), (key_known Has (λ k. tt), (key_known Remove (λ k. tt), (key_value_known RemoveIf (λ k v. tt), (nothing_known Size tt, (nothing_known Keys tt, (nothing_known Clear tt, (step_known, (nothing_known Sync tt, (nothing_known Stats tt, (nothing_known Stop tt, (nothing_known Halt tt, tt)))))))))))))))))
     name
 
 words_known : (words : List (List ℕ)) (command : Command) → words_command words ≡ Some command → HasLine command

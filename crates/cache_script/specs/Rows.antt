@@ -9,7 +9,7 @@ use Rattle.cache_script.specs.declared.rows.PutKind.TheVariants.{Put, PutAbsent,
 use Rattle.cache_script.specs.declared.rows.KeyKind.{KeyKind}
 use Rattle.cache_script.specs.declared.rows.KeyKind.TheVariants.{Get, Has, Remove}
 use Rattle.cache_script.specs.declared.rows.SoleKind.{SoleKind}
-use Rattle.cache_script.specs.declared.rows.SoleKind.TheVariants.{Size, Keys, Clear, Sync, Stop, Halt}
+use Rattle.cache_script.specs.declared.rows.SoleKind.TheVariants.{Size, Keys, Clear, Sync, Stats, Stop, Halt}
 use Rattle.cache_script.specs.declared.rows.Row.{Row}
 use Rattle.cache_script.specs.declared.rows.Row.TheVariants as row
 
@@ -31,6 +31,7 @@ sole_command Size = command.Size
 sole_command Keys = command.Keys
 sole_command Clear = command.Clear
 sole_command Sync = command.Sync
+sole_command Stats = command.Stats
 sole_command Stop = command.Stop
 sole_command Halt = command.Halt
 

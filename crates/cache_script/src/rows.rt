@@ -56,6 +56,7 @@ pub enum SoleKind {
     Keys,
     Clear,
     Sync,
+    Stats,
     Stop,
     Halt,
 }
@@ -70,6 +71,7 @@ impl SoleKind {
             SoleKind::Keys => Command::Keys,
             SoleKind::Clear => Command::Clear,
             SoleKind::Sync => Command::Sync,
+            SoleKind::Stats => Command::Stats,
             SoleKind::Stop => Command::Stop,
             SoleKind::Halt => Command::Halt,
         }
@@ -142,6 +144,8 @@ pub fn row_of(name: &[u8]) -> Option<Row>
         Some(Row::Step)
     } else if name == b"sync".as_slice() {
         Some(Row::Sole(SoleKind::Sync))
+    } else if name == b"stats".as_slice() {
+        Some(Row::Sole(SoleKind::Stats))
     } else if name == b"stop".as_slice() {
         Some(Row::Sole(SoleKind::Stop))
     } else if name == b"halt".as_slice() {

@@ -13,7 +13,7 @@ use std::process::Abort;
 use std::test::Fail;
 
 /// Lines without keys, and what is read of them.
-const SOLE_LINES: [(&str, &str); 42] = [
+const SOLE_LINES: [(&str, &str); 44] = [
     ("at 0", "Ok(At(0))"),
     ("at 00000000000000000007", "Ok(At(7))"),
     ("at 000000000000000000007", "Err(Syntax)"),
@@ -30,6 +30,8 @@ const SOLE_LINES: [(&str, &str); 42] = [
     ("sync", "Ok(Sync)"),
     ("sync x", "Err(Syntax)"),
     ("sync ", "Err(Syntax)"),
+    ("stats", "Ok(Stats)"),
+    ("stats 1", "Err(Syntax)"),
     ("step index", "Ok(Step(Index))"),
     ("step rotate", "Ok(Step(Rotate))"),
     ("step", "Err(Syntax)"),
