@@ -1,5 +1,5 @@
 -- The figures of data files, and how they change.
-use Rattle.std.specs.Prelude.{◌≡◌, ℕ, ◌+◌, ◌-◌, ◌*◌, ◌^◌, ◌<◌, ◌≤◌, ◌==◌, min, not, nat_lt, if◌then◌else◌, List, ◌∷◌, ◌++◌, map, filter, sum_by, All, Any, Option, Some, None}
+use Rattle.std.specs.Prelude.{◌≡◌, ℕ, ◌+◌, ◌-◌, ◌*◌, ◌^◌, ◌<◌, ◌≤◌, ◌==◌, max, min, not, nat_lt, if◌then◌else◌, List, Contains, ◌∷◌, ◌++◌, map, filter, sum_by, All, Any, Option, Some, None}
 use Rattle.cache_model.specs.declared.files.FileCount.{FileCount}
 
 -- The rows of the files, ascending by number, and how many new files there is room for.
@@ -31,6 +31,14 @@ shrunk_by bytes row = record { number = row.number; size = row.size; live = row.
 abbrev pub lengthened : ℕ → ℕ → FileCount → FileCount
 lengthened number bytes row = if row.number == number then lengthened_by bytes row else row
 
+-- a row, where the file has at least so many bytes
+abbrev pub raised_by : ℕ → FileCount → FileCount
+raised_by size row = record { number = row.number; size = max row.size size; live = row.live }
+
+-- a row, where this file has at least so many bytes
+abbrev pub raised : ℕ → ℕ → FileCount → FileCount
+raised number size row = if row.number == number then raised_by size row else row
+
 -- a row, where so many more bytes of this file are live
 abbrev pub grown : ℕ → ℕ → FileCount → FileCount
 grown number bytes row = if row.number == number then grown_by bytes row else row
@@ -42,6 +50,11 @@ shrunk number bytes row = if row.number == number then shrunk_by bytes row else 
 -- the rows, and that of a new file between those of lower and those of higher numbers
 abbrev pub with_new : FileCount → List FileCount → List FileCount
 with_new new rows = filter (λ row. nat_lt row.number new.number) rows ++ new ∷ filter (λ row. nat_lt new.number row.number) rows
+
+-- A file has at least so many bytes. One that had no row has one, where there was room.
+pub record IsRaised (file size : ℕ) (old new : Figures) : Type 0 where
+  pub had : Contains (numbers_of old.rows) file → new ≡ record old { rows = map (raised file size) old.rows }
+  pub added : (Contains (numbers_of old.rows) file → ⊥) → 1 ≤ old.spare → new ≡ record { rows = with_new (new_row file size) old.rows; spare = old.spare - 1 }
 
 -- the rows of the other files
 abbrev pub without : ℕ → List FileCount → List FileCount

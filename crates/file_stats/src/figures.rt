@@ -1,9 +1,9 @@
 // The figures of a store's data files, kept up to date.
-ghost use Rattle.std.specs.Prelude.{◌≡◌, ◌⊎◌, ◌+◌, ◌-◌, ◌^◌, ◌<◌, ◌≤◌, All, Contains, HoldsAt, IfErr, IfOk, OnErr, OnOk, length, insert, map, slice_set, take};
+ghost use Rattle.std.specs.Prelude.{◌≡◌, ◌⊎◌, ℕ, ◌+◌, ◌-◌, ◌*◌, ◌^◌, ◌<◌, ◌≤◌, min, All, Contains, HoldsAt, IfErr, IfOk, OnErr, OnOk, length, insert, map, slice_set, take};
 ghost use Rattle.cache_model.specs.declared.faults.ModelFault.TheVariants.{Memory};
 ghost use Rattle.file_stats.specs.Classes.{AreClassesOf};
 ghost use Rattle.file_stats.specs.Counts.{AreCounts};
-ghost use Rattle.file_stats.specs.Figures.{IsLeastCandidate, bytes_of, capped, grown, grown_by, lengthened, lengthened_by, live_bytes_of, new_row, numbers_of, shrunk, shrunk_by, with_new, without};
+ghost use Rattle.file_stats.specs.Figures.{IsLeastCandidate, IsRaised, bytes_of, capped, grown, grown_by, lengthened, lengthened_by, live_bytes_of, new_row, numbers_of, raised_by, shrunk, shrunk_by, with_new, without};
 ghost use Rattle.file_stats.specs.Keeping.{IsPlaceOf};
 
 use crate::classes::{Classes, FREE, class_of};
@@ -54,6 +54,16 @@ fn lengthened_by(row: FileCount, bytes: u64) -> FileCount
 {
     FileCount {
         size: row.size + bytes,
+        ..row
+    }
+}
+
+// A row, where the file has at least so many bytes.
+fn raised_by(row: FileCount, size: u64) -> FileCount
+    ensures { result ≡ raised_by size row }
+{
+    FileCount {
+        size: row.size.max(size),
         ..row
     }
 }
@@ -220,6 +230,22 @@ impl Stats {
                 self.replace(place, lengthened_by(row, bytes));
             }
             Err(place) => self.put_new(place, new_row(file, bytes)),
+        }
+    }
+
+    /// A file has so many bytes, where it had fewer. One that has no row gets a row without live bytes, where there is room.
+    pub fn raise(&mut self, file: u32, size: u64)
+        ensures { IsRaised file size self.old self.new }
+    {
+        match self.place_of(file) {
+            Ok(place) => {
+                let row = self.rows[place];
+                self.replace(place, raised_by(row, size));
+            }
+            Err(place) if self.rows.len() < self.classes.len() => {
+                self.put_new(place, new_row(file, size));
+            }
+            Err(_) => {}
         }
     }
 
