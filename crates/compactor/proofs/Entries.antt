@@ -1,6 +1,6 @@
 -- The entries of one hash, and what the index holds under each.
 use Rattle.std.proofs.Common.{◌≡◌, ⊎_elim, ℕ, Bool, true, false, List, [], ◌∷◌, Contains, All, Some, refl, sym, ◌∙◌, ap, subst, arith}
-use Rattle.std.specs.Prelude.{cond, filter, nat_eq}
+use Rattle.std.specs.Prelude.{Option, None, Result, Ok, Err, IfOk, cond, filter, nat_eq}
 use Rattle.std.specs.Cmp.{IsTotalOrder, on_total}
 use Rattle.std.specs.Map.{keys_of}
 use Rattle.std.specs.Ordering.{nat_cmp, ordering_then, is_eq}
@@ -16,7 +16,10 @@ use Rattle.cache_model.specs.declared.index.IndexKey.{IndexKey}
 use Rattle.cache_model.specs.declared.index.IndexValue.{IndexValue}
 use Rattle.cache_model.proofs.Members.{among-here, among-later, among-cases, all-among}
 use Rattle.tree_index.specs.Index.{Entries, index_cmp, is_key, value_at, AreOrdered, entries_of}
+use Rattle.compactor.specs.declared.finding.FoundEntry.{FoundEntry}
 use Rattle.compactor.specs.Counting.{IsFileNumber}
+use Rattle.compactor.specs.Entering.{IsHeld}
+use Rattle.compactor.specs.Finding.{IsAmong}
 
 pub index_total : IsTotalOrder index_cmp
 index_total =
@@ -91,3 +94,9 @@ among_held entries hash at value there same =
 -- the records of all of them stand in files with numbers that a data file may have
 pub numbered : (entries : Entries) → AreOrdered entries → (hash : ℕ) → ((at : IndexKey) (value : IndexValue) → value_at entries at ≡ Some value → IsFileNumber at.file) → All (λ e. IsFileNumber e.0.file) (entries_of hash entries)
 numbered entries ordered hash numbers = all-among (λ e. IsFileNumber e.0.file) (entries_of hash entries) (λ e among. numbers e.0 e.1 (held entries ordered hash e among).0)
+
+-- what was found among the entries of a hash is held
+pub held_among : {E : Type 0} (entries found : Entries) (hash : ℕ) (result : Result (Option FoundEntry) E) → AreOrdered entries → found ≡ entries_of hash entries → IfOk result (IsAmong found) → IfOk result (IsHeld entries)
+held_among entries found hash (Err e) ordered is among = tt
+held_among entries found hash (Ok None) ordered is among = tt
+held_among entries found hash (Ok (Some f)) ordered is among = (held entries ordered hash (f.at, f.value) (subst (λ (l : Entries). Contains l (f.at, f.value)) is among)).0

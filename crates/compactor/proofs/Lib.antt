@@ -1,10 +1,14 @@
+pub mod Applying
+pub mod Emptying
 pub mod Entries
+pub mod Figured
 pub mod FirstKey
 pub mod Looked
 pub mod NextEntry
 pub mod NextHash
 pub mod NextKnown
 pub mod Noting
+pub mod Passed
 pub mod Placed
 pub mod Raised
 pub mod Reindexed
@@ -13,6 +17,8 @@ pub mod RowsSame
 pub mod Searching
 pub mod Seeking
 pub mod StepEnds
+pub mod Standing
 pub mod Stepped
 pub mod StillIndexed
+pub mod Told
 pub mod Walked

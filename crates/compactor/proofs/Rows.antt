@@ -34,11 +34,15 @@ placed_once counts files is n a one other k l counted key counted_too key_too =
 no_newer_both : (s t m n a b : ℕ) → IsNoNewer (s, m, a) (t, n, b) → IsNoNewer (t, n, b) (s, m, a) → (m ≡ n) × (a ≡ b)
 no_newer_both s t m n a b one other = (omega arith, omega arith)
 
+-- The newest record of a key stands at one place.
+pub newest_place : (counts : Counts) (key : List ℕ) (m n a b : ℕ) (one other : Item) → IsNewestBy counts key m a one → IsNewestBy counts key n b other → (m ≡ n) × (a ≡ b)
+newest_place counts key m n a b one other is is_too = no_newer_both (sequence_of one) (sequence_of other) m n a b (is_too.newest m a one is.counted is.of_key) (is.newest n b other is_too.counted is_too.of_key)
+
 -- A key has one newest record,
 pub newest_once : (counts : Counts) (files : Image) → AreThere counts files → (key : List ℕ) (m n a b : ℕ) (one other : Item)
     → IsNewestBy counts key m a one → IsNewestBy counts key n b other → one ≡ other
 newest_once counts files there key m n a b one other is is_too =
-    let same = no_newer_both (sequence_of one) (sequence_of other) m n a b (is_too.newest m a one is.counted is.of_key) (is.newest n b other is_too.counted is_too.of_key) in
+    let same = newest_place counts key m n a b one other is is_too in
     let here : counts m a other = subst (λ (at : ℕ). counts m at other) (sym same.1) (subst (λ (number : ℕ). counts number b other) (sym same.0) is_too.counted) in
     placed_once counts files there m a one other key key is.counted is.of_key here is_too.of_key
 

@@ -1,5 +1,5 @@
 -- Where the same records count, the parts stand for them as before.
-use Rattle.std.proofs.Common.{◌≡◌, ℕ, Bool, List, [], length, drop, Option, Some, unwrap_or, ◌∙◌, ap}
+use Rattle.std.proofs.Common.{◌≡◌, ℕ, Bool, List, [], length, drop, Option, Some, None, unwrap_or, ◌∙◌, ap}
 use Rattle.std.proofs.lemmas.List.Elements.{All-weaker}
 use Rattle.cache_model.specs.declared.files.Place.{Place}
 use Rattle.cache_model.specs.declared.index.IndexKey.{IndexKey}
@@ -12,7 +12,7 @@ use Rattle.temporary_table.specs.declared.requests.Request.TheVariants.{Set, Swa
 use Rattle.temporary_table.specs.Places.{Places}
 use Rattle.tree_index.specs.Index.{Index}
 use Rattle.compactor.specs.Counting.{Counts, IsNewestBy, AreThere, CountSame}
-use Rattle.compactor.specs.Indexing.{IsPlaced, IsPut, IsEntryOf, IsIndexed}
+use Rattle.compactor.specs.Indexing.{IsPlaced, IsPut, IsEntryOf, IsIndexed, StandsAt, last_put}
 
 module _ (counts more : Counts) (same : CountSame counts more) where
   abbrev placed_same : (key : List ℕ) (place : Place) (gone : Bool) → IsPlaced counts key place gone → IsPlaced more key place gone
@@ -33,7 +33,13 @@ module _ (counts more : Counts) (same : CountSame counts more) where
 
   put_same : (request : Request) → IsPut counts request → IsPut more request
   put_same (Set key to gone) is = placed_same key to gone is
-  put_same (Swap key from to) is = is
+  put_same (Swap key from to) is = record {
+    item = is.item;
+    was = same.kept from.file from.at is.item key is.was is.of_key;
+    counted = same.kept to.file to.at is.item key is.counted is.of_key;
+    of_key = is.of_key;
+    long = is.long;
+  }
   put_same (Drop key from) is = is
   put_same (Less key) is = is
 
@@ -44,6 +50,17 @@ module _ (counts more : Counts) (same : CountSame counts more) where
     some = is.some;
   }
 
+  stands_same : (index : Index) (key : List ℕ) (last : Option Place) (from : Place) → StandsAt counts index key last from → StandsAt more index key last from
+  stands_same index key None from stands = record {
+    at = stands.at;
+    value = stands.value;
+    there = stands.there;
+    entry = entry_same index.bits key stands.at stands.value stands.entry;
+    file_is = stands.file_is;
+    at_is = stands.at_is;
+  }
+  stands_same index key (Some last) from stands = stands
+
 swapped : (counts more : Counts) → CountSame counts more → CountSame more counts
 swapped counts more same = record { kept = same.only; only = same.kept }
 
@@ -52,6 +69,7 @@ indexed_same counts more places index waiting same is = record {
   queued = is.queued;
   requested = All-weaker (IsPut counts) (IsPut more) (put_same counts more same) waiting is.requested;
   apart = is.apart;
+  swaps = λ key from to before after split. stands_same counts more same index key (last_put key before) from (is.swaps key from to before after split);
   placed = λ key place gone at.
       let held = is.placed key place gone at in
       (placed_same counts more same key place gone held.0, newest_same counts more same key place.file place.at held.0.item held.1);

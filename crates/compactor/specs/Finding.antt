@@ -45,6 +45,11 @@ pub record IsOfOther (files : Image) (key : List ℕ) (e : IndexKey × IndexValu
   pub read : entry_front files e.0 e.1 ≡ whole item e.1.length
   pub other : has_key key item ≡ false
 
+-- what was found is one of the entries, where there is one
+abbrev pub IsAmong : Entries → Option FoundEntry → Type 0
+IsAmong entries None = Unit {0}
+IsAmong entries (Some found) = Contains entries (found.at, found.value)
+
 -- one of the entries with its record, which is of the key; or None, where the records of all are of other keys
 abbrev pub IsEntryFor : Image → List ℕ → Entries → Option FoundEntry → Type 0
 IsEntryFor files key entries None = All (IsOfOther files key) entries

@@ -1,5 +1,6 @@
 pub mod Counting
 pub mod Entering
+pub mod Figuring
 pub mod Finding
 pub mod Indexing
 pub mod Looking
@@ -7,3 +8,4 @@ pub mod Raising
 pub mod Rows
 pub mod Stepping
 pub mod Walking
+pub mod Recounting

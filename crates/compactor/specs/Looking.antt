@@ -1,8 +1,9 @@
 -- What is read of the newest records.
-use Rattle.std.specs.Prelude.{◌≡◌, ◌⊎◌, ℕ, ◌+◌, ◌≤◌, true, false, List, length, Option, Some, None, Result, IfOk, OnOk, OnErr, IsErrOf, sum_by}
+use Rattle.std.specs.Prelude.{◌≡◌, ◌⊎◌, ◌↔◌, ℕ, ◌+◌, ◌≤◌, Bool, IsTrue, true, false, List, length, Option, Some, None, Result, IfOk, OnOk, OnErr, IsErrOf, sum_by}
 use Rattle.cache_model.specs.declared.faults.StoreFault.{StoreFault}
 use Rattle.cache_model.specs.declared.faults.StoreFault.TheVariants as fault
 use Rattle.cache_model.specs.declared.faults.Damage.{Damage}
+use Rattle.cache_model.specs.declared.files.Place.{Place}
 use Rattle.cache_model.specs.Items.{Item, spelling}
 use Rattle.cache_model.specs.Images.{key_of}
 use Rattle.cache_model.specs.Hash.{hash, precedes, follows}
@@ -23,6 +24,7 @@ pub record Looks {R : Type 0} (old new : Parts) (result : Result R StoreFault) :
   pub tree : new.tree ≡ old.tree
   pub table : new.table ≡ old.table
   pub requests : new.requests ≡ old.requests
+  pub stats : new.stats ≡ old.stats
   pub log : new.spoilt ≡ false → files_of new.log ≡ files_of old.log
   pub same_log : files_of new.log ≡ with_spoilt (files_of old.log) (is_spoilt_log (files_of new.log))
   pub usable : new.spoilt ≡ false → AreUsable new
@@ -33,6 +35,10 @@ pub record Looks {R : Type 0} (old new : Parts) (result : Result R StoreFault) :
 abbrev pub IsNewestOr : Counts → List ℕ → Option OwnItem → Type 0
 IsNewestOr counts key None = HasNone counts key
 IsNewestOr counts key (Some item) = (n : ℕ) × (a : ℕ) × IsNewestBy counts key n a (own_item item)
+
+-- what is told of the record at a place is whether it is its key's newest
+abbrev pub TellsNewest : Counts → List ℕ → Place → Bool → Type 0
+TellsNewest counts key place is = (item : Item) → counts place.file place.at item → key_of item ≡ Some key → (IsTrue is ↔ IsNewestBy counts key place.file place.at item)
 
 -- how many bytes are read to find a record: those at the place of its key, or those of all records with the key's hash
 abbrev pub bytes_by : Seat → Entries → ℕ

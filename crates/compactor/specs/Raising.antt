@@ -1,13 +1,13 @@
--- How many records of a key the index counts, and how a request raises that.
+-- How many records of a key the index counts, and how a request moves that.
 use Rattle.std.specs.Prelude.{◌≡◌, ◌⊎◌, ℕ, List, ◌∷◌, Some, if◌then◌else◌}
 use Rattle.cache_model.specs.declared.index.IndexKey.{IndexKey}
 use Rattle.cache_model.specs.declared.index.IndexValue.{IndexValue}
 use Rattle.temporary_table.specs.declared.requests.Request.{Request}
-use Rattle.temporary_table.specs.Queue.{raises}
+use Rattle.temporary_table.specs.Queue.{raises, lowers}
 use Rattle.tree_index.specs.Index.{Index, value_at}
 use Rattle.compactor.specs.declared.parts.Parts.{Parts}
 use Rattle.compactor.specs.Counting.{Counts}
-use Rattle.compactor.specs.Entering.{one_more}
+use Rattle.compactor.specs.Entering.{one_less, one_more}
 use Rattle.compactor.specs.Indexing.{IsEntryOf}
 
 -- an entry of a key with this count
@@ -26,11 +26,12 @@ HasNoEntry counts index key = (at : IndexKey) (value : IndexValue) → value_at 
 abbrev pub HasCount : Counts → Index → List ℕ → ℕ → Type 0
 HasCount counts index key count = HasEntryWith counts index key count ⊎ (HasNoEntry counts index key × (count ≡ 0))
 
--- the count of a key once a request is applied
+-- the count of a key once a request is applied: one more by a Set or a Swap of the key, and one less, but 1 at the least,
+-- by a Less of it
 abbrev pub raised : Request → List ℕ → ℕ → ℕ
-raised request key count = if raises key request then one_more count else count
+raised request key count = if raises key request then one_more count else if lowers key request then one_less count else count
 
--- The oldest request raised the count of its key by one, and left those of all other keys.
+-- The oldest request moved the count of its key by one, and left those of all other keys.
 abbrev pub Raises : Counts → Parts → Parts → Type 0
 Raises counts old new = (request : Request) (waiting : List Request) → old.requests.waiting ≡ request ∷ waiting
     → (key : List ℕ) (count : ℕ) → HasCount counts old.tree key count → HasCount counts new.tree key (raised request key count)

@@ -1,5 +1,5 @@
 // The entry of a key in the index, among those of its hash.
-ghost use Rattle.std.specs.Prelude.{◌≡◌, ◌≤◌, IsTrue, ℕ, All, Some, IsErrOf};
+ghost use Rattle.std.specs.Prelude.{◌≡◌, ◌≤◌, IsTrue, ℕ, All, Some, IfOk, IsErrOf};
 ghost use Rattle.cache_model.specs.declared.faults.StoreFault.TheVariants as fault;
 ghost use Rattle.cache_model.specs.declared.faults.Spent.{Spent};
 ghost use Rattle.cache_model.specs.declared.index.IndexKey.{IndexKey};
@@ -11,7 +11,8 @@ ghost use Rattle.append_log.specs.Current.{IsUsable, files_of, store_of};
 ghost use Rattle.append_log.specs.Fetching.{with_spoilt};
 ghost use Rattle.tree_index.specs.Index.{entries_of, value_at};
 ghost use Rattle.compactor.specs.Counting.{IsFileNumber};
-ghost use Rattle.compactor.specs.Finding.{Searches, entry_place, has_key, spoils};
+ghost use Rattle.compactor.specs.Entering.{IsHeld};
+ghost use Rattle.compactor.specs.Finding.{IsAmong, Searches, entry_place, has_key, spoils};
 
 use append_log::Log;
 use cache_disk::Host;
@@ -59,6 +60,7 @@ fn first_of_key<H: Host>(
     requires main { store_of (files_of log.old) ≡ 0 }
     requires numbers { All (λ e. IsFileNumber e.0.file) entries.now }
     ensures log { files_of log.new ≡ with_spoilt (files_of log.old) (spoils result) }
+    ensures among { IfOk result (IsAmong entries.now) }
     ensures searches { IsTrue H.tells → Searches key.now entries.now (H.state host.old) (H.state host.new) result }
     ensures unspent { (s : Spent) → IsErrOf result (fault.Spent s) → ⊥ }
     ensures cause { HasStoreCause (H.state host.old) (H.state host.new) result }
@@ -93,6 +95,7 @@ pub(crate) fn find_entry<H: Host>(
     requires numbers { (at : IndexKey) (value : IndexValue) → value_at tree.old.entries at ≡ Some value → IsFileNumber at.file }
     ensures tree { tree.new ≡ tree.old }
     ensures log { files_of log.new ≡ with_spoilt (files_of log.old) (spoils result) }
+    ensures held { IfOk result (IsHeld tree.old.entries) }
     ensures searches { IsTrue H.tells → Searches key.now (entries_of (hash tree.old.bits key.now) tree.old.entries) (H.state host.old) (H.state host.new) result }
     ensures unspent { (s : Spent) → IsErrOf result (fault.Spent s) → ⊥ }
     ensures cause { HasStoreCause (H.state host.old) (H.state host.new) result }

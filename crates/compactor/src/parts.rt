@@ -8,11 +8,12 @@ ghost use Rattle.append_log.specs.Current.{files_of};
 ghost use Rattle.temporary_table.specs.Places.{place_of, seat_of};
 ghost use Rattle.compactor.specs.Counting.{Kept, AreThere, counts_in};
 ghost use Rattle.compactor.specs.Indexing.{AreIndexed, AreUsable};
-ghost use Rattle.compactor.specs.Stepping.{KeepsIndex, Notes, Seats, StepsIndex};
+ghost use Rattle.compactor.specs.Stepping.{Notes, NotesCopy, NotesLess, Seats};
 
 use append_log::Log;
 use cache_disk::Host;
-use cache_model::{Key, Place, StoreFault, Turned};
+use cache_model::{Key, Place, StoreFault};
+use file_stats::Stats;
 use temporary_table::{Request, Requests, Table};
 use tree_index::Tree;
 
@@ -25,6 +26,8 @@ pub struct Parts {
     pub tree: Tree,
     pub table: Table,
     pub requests: Requests,
+    /// The sizes of the data files, and how many of their bytes are of records that the index has an entry of.
+    pub stats: Stats,
     /// Whether they may be used no more.
     pub spoilt: bool,
 }
@@ -65,5 +68,24 @@ impl Parts {
             to: place,
             gone,
         });
+    }
+
+    /// Notes the place of a copy of a key's newest record, which the index is to be told of in place of `from`. The key has
+    /// a seat, and the queue isn't full. It takes no memory.
+    pub fn swap(&mut self, key: Key, from: Place, to: Place, gone: bool)
+        requires seat { IsSome (seat_of self.old.table key) }
+        requires room { length self.old.requests.waiting < self.old.requests.limit }
+        ensures notes { NotesCopy key from to gone self.old self.new }
+    {
+        self.table.set(&key, to, gone);
+        self.requests.push(Request::Swap { key, from, to });
+    }
+
+    /// Notes that one record less of a key is to be counted. The queue isn't full. It takes no memory.
+    pub fn less(&mut self, key: Key)
+        requires room { length self.old.requests.waiting < self.old.requests.limit }
+        ensures notes { NotesLess key self.old self.new }
+    {
+        self.requests.push(Request::Less { key });
     }
 }

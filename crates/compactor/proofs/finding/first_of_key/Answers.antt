@@ -1,4 +1,5 @@
 use Rattle.std.proofs.Common.{Option, sym, ◌∙◌, subst, false}
+use Rattle.std.proofs.lemmas.List.Elements.{Contains-get_or}
 use Rattle.append_log.specs.Current.{IsUsable, files_of}
 use Rattle.compactor.specs.declared.finding.FoundEntry.{FoundEntry}
 use Rattle.compactor.proofs.Searching.{Row, searched_none, searched_more, search_found, search_failed, search_none, as_sound, kept_log, failed_log, found_cause, failed_cause, none_cause}
@@ -27,6 +28,9 @@ returns-in-Err-clause-cause g c =
 
 pub returns-then-has_key-clause-log : goal.returns-then-has_key-clause-log
 returns-then-has_key-clause-log g c = kept_log (files_of c.args.log.now) (files_of c.loop-at.log) (files_of c.fetch.new.self) c.requires.usable.sound c.loop-at.invariant.log c.in-Ok.ensures.leaves
+
+pub returns-then-has_key-clause-among : goal.returns-then-has_key-clause-among
+returns-then-has_key-clause-among g c = Contains-get_or c.args.entries.now c.loop-at.at-index none c.loop-at-test.true
 
 pub returns-then-has_key-clause-searches : goal.returns-then-has_key-clause-searches
 returns-then-has_key-clause-searches g c told =

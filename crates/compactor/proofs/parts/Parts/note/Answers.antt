@@ -1,10 +1,10 @@
-use Rattle.std.proofs.Common.{◌≡◌, ◌+◌, List, ◌++◌, ◌∷◌, [], length, refl, sym, ◌∙◌, ap, subst, length-append}
+use Rattle.std.proofs.Common.{◌≡◌, ◌+◌, List, ◌++◌, ◌∷◌, [], length, refl, ◌∙◌, ap, subst, sym, length-append}
 use Rattle.temporary_table.specs.declared.requests.Request.{Request}
 use Rattle.temporary_table.specs.declared.requests.Request.TheVariants.{Set}
 use Rattle.temporary_table.specs.Queue.{Queue, pushed}
 use Rattle.compactor.specs.Counting.{counts_in}
 use Rattle.compactor.specs.Indexing.{IsIndexed}
-use Rattle.compactor.proofs.Noting.{noted, usable_noted}
+use Rattle.compactor.proofs.Noting.{noted, placed_new, placed_numbered, usable_queued}
 use Rattle.compactor.proofs.parts.Parts.note.Goals as goal
 
 one_more : (waiting : List Request) (request : Request) → length (waiting ++ request ∷ []) ≡ length waiting + 1
@@ -19,12 +19,15 @@ returns c =
     record {
       notes = record {
         tree = refl;
+        stats = refl;
         log = refl;
         spoilt = refl;
         limit = ap (λ (q : Queue). q.limit) more;
         queued = ap (λ (q : Queue). length q.waiting) more ∙ one_more old.requests.waiting request;
-        usable = usable_noted old c.args.key c.args.place c.args.gone c.set.new.self c.push.new.self c.set.ensures.set more c.requires.room;
+        usable = λ usable number. usable_queued old (record old { table = c.set.new.self; requests = c.push.new.self }) request (record { tree = refl; stats = refl; log = refl; spoilt = refl; queued = more }) c.set.ensures.set.bits
+            (placed_numbered old.table c.set.new.self c.args.key c.args.place c.args.gone c.set.ensures.set number usable.placed) c.requires.room usable number;
         indexed = λ kept more_kept item indexed adds is. subst (λ (q : Queue). IsIndexed (counts_in more_kept) c.set.new.self old.tree q.waiting) (sym more)
-            (noted (counts_in kept) (counts_in more_kept) c.args.key c.args.place c.args.gone item adds is old.table c.set.new.self old.tree old.requests.waiting indexed c.set.ensures.set);
+            (noted (counts_in kept) (counts_in more_kept) c.args.key c.args.place c.args.gone item adds is request refl refl (placed_new (counts_in kept) (counts_in more_kept) c.args.key c.args.place c.args.gone item adds is)
+            old.table c.set.new.self old.tree old.requests.waiting indexed c.set.ensures.set (λ k from to same. cc));
       };
     }
