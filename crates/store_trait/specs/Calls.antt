@@ -154,3 +154,11 @@ pub record Stepped (step : StepKind) (f g : StoreFacts) (old new : StoreState) (
   pub content : OnOk result (IsKept f moment old.content new.content)
   pub marks : OnOk result (IsKeptAtMarks f after.turn old new)
   pub parts : IfOk result (λ turned. old.steps step turned f.parts g.parts)
+
+-- The call of `figures` kept the content, at the call's moment and at the mark of each pair that may be left then, and
+-- counted the files as they read.
+pub record Figured (f g : StoreFacts) (old new : StoreState) (before after : HostState) (moment : ℕ) (result : Result (ℕ × ℕ × ℕ) StoreFault) : Type 0 where
+  pub acts : Acts f g old new before after moment old.content result
+  pub content : OnOk result (IsKept f moment old.content new.content)
+  pub marks : OnOk result (IsKeptAtMarks f after.turn old new)
+  pub parts : IfOk result (λ figures. f.counts before.files figures f.parts g.parts)

@@ -10,7 +10,7 @@ use Rattle.store_trait.specs.Keeping.{Carries, HoldsNow}
 abbrev pub heap_content : HeapStore → Content
 heap_content store = store.entries.content
 
--- it is never spoilt, forgets no key, owns no file and has no parts
+-- it is never spoilt, forgets no key, owns no file, counts none, and has no parts
 abbrev pub heap_facts : HeapStore → StoreFacts
 heap_facts store = record {
   bits = store.entries.bits;
@@ -29,6 +29,7 @@ heap_facts store = record {
   moves = λ change a b. b ≡ a;
   empties = λ a b. b ≡ a;
   room = λ a b. b ≡ a;
+  counts = λ files figures a b. (figures ≡ (0, 0, 0)) × (b ≡ a);
 }
 
 -- Only its content is possible, and only now: it has no history.

@@ -90,6 +90,7 @@ pub record SameStore (old new : StoreFacts) : Type 0 where
   pub moves : (change : Change) (a b : List Row) → (new.moves change a b ↔ old.moves change a b)
   pub empties : (a b : List Row) → (new.empties a b ↔ old.empties a b)
   pub room : (a b : List Row) → (new.room a b ↔ old.room a b)
+  pub counts : (files : Image) (figures : ℕ × ℕ × ℕ) (a b : List Row) → (new.counts files figures a b ↔ old.counts files figures a b)
 
 -- What holds between two calls. The content is among what may be left, of each key and of all together, with each mark
 -- from the greatest moment of the calls on: a later call can leave that. Each image opens, where the store is sound.

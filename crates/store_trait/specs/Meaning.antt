@@ -9,6 +9,7 @@ use Rattle.cache_model.specs.declared.files.FileName.{FileName}
 use Rattle.cache_model.specs.declared.faults.Spent.{Spent}
 use Rattle.cache_model.specs.declared.commands.StepKind.{StepKind}
 use Rattle.cache_model.specs.declared.replies.Turned.{Turned}
+use Rattle.cache_model.specs.Files.{Image}
 use Rattle.cache_model.specs.Items.{IsUntil}
 use Rattle.cache_model.specs.Plain.{visible_at}
 
@@ -105,6 +106,9 @@ pub record StoreFacts : Type 1 where
   pub empties : List Row → List Row → Type 0
   -- how they go on by the steps for room that a call takes before it is refused for want of memory
   pub room : List Row → List Row → Type 0
+  -- how they go on by a count of the files as they read, which gives how many there are, how many bytes they have, and
+  -- how many of these are live
+  pub counts : Image → ℕ × ℕ × ℕ → List Row → List Row → Type 0
 
 -- What a store stands for on a host that tells its contents.
 pub record StoreState : Type 1 where

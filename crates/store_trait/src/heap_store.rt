@@ -8,7 +8,7 @@ ghost use Rattle.store_trait.specs.Calls.{IsAnswer};
 ghost use Rattle.store_trait.specs.Heap.{heap_content, heap_facts, heap_means, heap_carries, heap_possible};
 
 use crate::entries::is_visible;
-use crate::{Entries, Keyed, ReadStore, Store};
+use crate::{Entries, FileStore, Keyed, ReadStore, Store};
 use cache_disk::Host;
 use cache_model::{Answer, Change, Entry, Key, ModelFault, StepKind, StoreFault, Turned};
 use std::alloc::Global;
@@ -139,5 +139,12 @@ impl<H: Host> Store<H> for HeapStore {
     fn step(&mut self, _host: &mut H, moment: u64, _kind: StepKind) -> Result<Turned, StoreFault> {
         self.latest = moment;
         Ok(Turned::Idle)
+    }
+}
+
+impl<H: Host> FileStore<H> for HeapStore {
+    fn figures(&mut self, _host: &mut H, moment: u64) -> Result<(u64, u64, u64), StoreFault> {
+        self.latest = moment;
+        Ok((0, 0, 0))
     }
 }

@@ -7,7 +7,7 @@ mod traits;
 
 pub use entries::{Entries, Seat, is_visible};
 pub use heap_store::{HeapStore, answer_of};
-pub use traits::{Keyed, ReadStore, Store};
+pub use traits::{FileStore, Keyed, ReadStore, Store};
 
 #[cfg(test)]
 mod tests;

@@ -4,7 +4,7 @@ ghost use Rattle.store_trait.specs.Meaning.{IsChange};
 ghost use Rattle.store_trait.specs.Calls.{IsReady};
 ghost use Rattle.store_trait.specs.Heap.{heap_facts};
 
-use crate::{Entries, HeapStore, Keyed, Store};
+use crate::{Entries, FileStore, HeapStore, Keyed, Store};
 use cache_disk::Host;
 use cache_model::{Answer, Change, Entry, Key, StepKind, StoreFault, Turned, Until, Value};
 use host_memory::MemoryHost;
@@ -106,6 +106,20 @@ fn rests<H: Host, S: Store<H>>(
     store.step(host, moment, StepKind::Flush)
 }
 
+/// What a count of the files gives.
+fn figures_of<H: Host, S: FileStore<H>>(
+    store: &mut S,
+    host: &mut H,
+    moment: u64,
+) -> Result<(u64, u64, u64), StoreFault>
+    requires ready { IsReady (S.facts store.old) moment }
+    requires stands { IsTrue H.tells → (S.means store.old (H.state host.old)).stands }
+    ensures ready { OnOk result (IsReady (S.facts store.new) moment) }
+    ensures stands { OnOk result (IsTrue H.tells → (S.means store.new (H.state host.new)).stands) }
+{
+    store.figures(host, moment)
+}
+
 /// The key behind one in the walk, where there is one.
 fn behind(
     store: &mut HeapStore,
@@ -179,6 +193,8 @@ fn rows_hold(rt: &impl Abort, alloc: Global, bits: u32) -> Result<(), Fail>
     let change = Change::Remove(Key::of(alloc, b"x")?);
     let answer = load_after(&mut store, &mut host, &change, &never, MOMENT)?;
     assert!(rt; text_of(alloc, &answer)?.as_str() == "Unknown");
+    let figures = figures_of(&mut store, &mut host, MOMENT)?;
+    assert!(rt; figures == (0, 0, 0), "{figures:?}");
     let turned = rests(&mut store, &mut host, MOMENT)?;
     assert!(rt; turned == Turned::Idle && !store.is_spoilt());
     Ok(())

@@ -1,10 +1,10 @@
 // The traits of stores.
-ghost use Rattle.std.specs.Prelude.{◌≡◌, ◌≤◌, ◌<◌, IsTrue, option_map, true, false};
+ghost use Rattle.std.specs.Prelude.{◌≡◌, ◌≤◌, ◌<◌, IsTrue, OnErr, option_map, true, false};
 ghost use Rattle.cache_disk.specs.State.{HostState};
 ghost use Rattle.cache_disk.specs.Calls.{HasStoreCause};
 ghost use Rattle.store_trait.specs.Meaning.{StoreFacts, StoreState, IsChange};
 ghost use Rattle.store_trait.specs.Keeping.{Leaves, Carries, HoldsNow};
-ghost use Rattle.store_trait.specs.Calls.{IsReady, Plainly, DrawsBy, DrawsNone, DrawsOne, Loaded, Walked, Written, SyncedStore, Stepped};
+ghost use Rattle.store_trait.specs.Calls.{IsReady, Plainly, DrawsBy, DrawsNone, DrawsOne, Loaded, Walked, Written, SyncedStore, Stepped, Figured};
 
 use cache_disk::Host;
 use cache_model::{Answer, Change, Key, StepKind, StoreFault, Turned};
@@ -95,6 +95,21 @@ pub trait Store<H: Host>: ReadStore<H> {
         ensures plain { Plainly (Self.facts self.old) (Self.facts self.new) moment result }
         ensures draws { DrawsBy kind (Self.facts self.old) (Self.facts self.new) result }
         ensures told { IsTrue H.tells → Stepped kind (Self.facts self.old) (Self.facts self.new)
+            (Self.means self.old (H.state host.old)) (Self.means self.new (H.state host.new)) (H.state host.old) (H.state host.new) moment result }
+        ensures cause { HasStoreCause (H.state host.old) (H.state host.new) result };
+}
+
+/// A store of files, which can be counted.
+pub trait FileStore<H: Host>: Store<H> {
+    /// Counts the files: how many there are, how many bytes they have, and how many of these are live. After each fault,
+    /// also after want of memory, the store may be used no more.
+    fn figures(&mut self, host: &mut H, moment: u64) -> Result<(u64, u64, u64), StoreFault>
+        requires ready { IsReady (Self.facts self.old) moment }
+        requires stands { IsTrue H.tells → (Self.means self.old (H.state host.old)).stands }
+        ensures plain { Plainly (Self.facts self.old) (Self.facts self.new) moment result }
+        ensures spoilt { OnErr result ((Self.facts self.new).spoilt ≡ true) }
+        ensures draws { DrawsNone (Self.facts self.old) (Self.facts self.new) }
+        ensures told { IsTrue H.tells → Figured (Self.facts self.old) (Self.facts self.new)
             (Self.means self.old (H.state host.old)) (Self.means self.new (H.state host.new)) (H.state host.old) (H.state host.new) moment result }
         ensures cause { HasStoreCause (H.state host.old) (H.state host.new) result };
 }
