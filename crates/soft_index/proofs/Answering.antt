@@ -16,6 +16,7 @@ use Rattle.cache_model.proofs.Spelled.{length-spelling}
 use Rattle.cache_disk.specs.State.{HostState, Rose}
 use Rattle.cache_disk.specs.State as disk
 use Rattle.cache_disk.proofs.Runs.{Stands-moves, Stands-silent}
+use Rattle.file_stats.specs.Figures.{Figures}
 use Rattle.record_format.specs.declared.items.OwnItem.{OwnItem}
 use Rattle.record_format.specs.Meaning.{own_item}
 use Rattle.data_file.proofs.Frame.{placed_of}
@@ -127,7 +128,7 @@ module _ (S T : LogStore) (a b : HostState) (frames : List Frame) (records : Lis
       call_acts S T a b frames records moment (content_of S a.files) (λ d c. ⊥) stands (Stands-moves a b (λ d c. ⊥) still) (λ d c left none. absurd none) sound late latest (λ unspoilt. inl (looks_content looked looks))
       result (still_leaves a b still) (Stands-silent a b still)
       (λ unspoilt.
-      (frames, records, still_stands S T a b frames records stands (as_was S T a.files b.files (looks.log unspoilt) (looks.table, looks.tree, looks.requests) (λ n. still.files (log_name n))) (omega (arith, late, latest)) still))
+      (frames, records, still_stands S T a b frames records stands (as_was S T a.files b.files (looks.log unspoilt) (looks.table, looks.tree, looks.requests) (ap (λ (f : Figures). f.rows) looks.stats) (λ n. still.files (log_name n))) (omega (arith, late, latest)) still))
       damaged (λ s err. absurd (unspent s err))
       (λ err unspoilt. (looks_content looked looks, inl (looks_rows looked looks unspoilt)))
 

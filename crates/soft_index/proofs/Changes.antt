@@ -1,6 +1,8 @@
 -- What calls leave of a store, and how its numbers and parts go on.
-use Rattle.std.proofs.Common.{◌≡◌, inl, inr, ℕ, ◌+◌, ◌-◌, ◌^◌, ◌≤◌, ◌<◌, false, Bool, List, [], Option, Some, None, All, zero, suc, refl, sym, ◌∙◌, ap, subst, arith}
-use Rattle.std.specs.Prelude.{length, Result, IsErrOf}
+use Rattle.std.proofs.Common.{◌≡◌, inl, inr, ℕ, ◌+◌, ◌-◌, ◌^◌, ◌≤◌, ◌<◌, false, Bool, List, [], Contains, Option, Some, None, IsSome, All, zero, suc, refl, sym, ◌∙◌, ap, subst, arith}
+use Rattle.std.specs.Prelude.{◌↔◌, length, Result, IsErrOf}
+use Rattle.std.specs.List.Sorted.{IsStrictlyIncreasing}
+use Rattle.cache_model.specs.declared.files.FileCount.{FileCount}
 use Rattle.cache_model.specs.declared.faults.StoreFault.{StoreFault}
 use Rattle.cache_model.specs.declared.faults.StoreFault.TheVariants as fault
 use Rattle.cache_model.specs.declared.faults.Spent.{Spent}
@@ -8,7 +10,7 @@ use Rattle.cache_model.specs.declared.faults.Damage.{Damage}
 use Rattle.cache_model.specs.declared.commands.StepKind.{StepKind}
 use Rattle.cache_model.specs.declared.commands.StepKind.TheVariants.{Index, Flush, Compact, Evict, Reap, Rotate}
 use Rattle.cache_model.specs.declared.replies.Turned.TheVariants.{Idle}
-use Rattle.cache_model.specs.Files.{Image, file_in}
+use Rattle.cache_model.specs.Files.{Image, bytes_in, file_in}
 use Rattle.cache_model.specs.Items.{Item}
 use Rattle.cache_model.specs.DataFiles.{Frame, CountsFrames}
 use Rattle.cache_model.specs.Images.{log_name}
@@ -25,7 +27,10 @@ use Rattle.temporary_table.specs.declared.requests.Request.{Request}
 use Rattle.temporary_table.specs.Places.{Places}
 use Rattle.temporary_table.specs.Queue.{Queue}
 use Rattle.tree_index.specs.Index.{Index as Tree}
+use Rattle.file_stats.specs.Figures.{numbers_of}
+use Rattle.compactor.specs.declared.parts.Parts.{Parts}
 use Rattle.compactor.specs.Counting.{Kept, counts_in}
+use Rattle.compactor.specs.Figuring.{IsFigured}
 use Rattle.compactor.specs.Indexing.{AreIndexed, IsIndexed}
 use Rattle.compactor.specs.Rows.{rows_of}
 use Rattle.compactor.proofs.Rows.{rows_same}
@@ -34,6 +39,8 @@ use Rattle.store_trait.specs.Meaning.{Content, Row, read_in}
 use Rattle.store_trait.specs.Keeping.{Keeps, Leaves, SameContent}
 use Rattle.store_trait.specs.Calls.{Acts, IsNumbered, DrawsNone}
 use Rattle.soft_index.specs.declared.log_store.LogStore.{LogStore}
+use Rattle.soft_index.specs.Counted.{AreCounted}
+use Rattle.soft_index.specs.Laws.{counted_files}
 use Rattle.soft_index.specs.Store.{HoldsLog, IsNamed, LogStands, StepsBy, content_of, current_of, is_spent, log_facts, log_means, main_files, next_file, next_of, number, owns_file, row_of, waiting, writer}
 use Rattle.soft_index.proofs.Images.{call_acts, call_keeps}
 use Rattle.soft_index.proofs.Standing.{stands_same}
@@ -43,6 +50,7 @@ pub record IsAsWas (S T : LogStore) (before after : Image) : Type 0 where
   pub files : files_of T.parts.log ≡ files_of S.parts.log
   pub indexed : (kept : Kept) → AreIndexed (counts_in kept) S.parts → AreIndexed (counts_in kept) T.parts
   pub content : SameContent (content_of S before) (content_of T after)
+  pub counted : (kept : Kept) → AreCounted kept S.parts → AreCounted kept T.parts
 
 -- the parts are the same
 abbrev pub SameParts : LogStore → LogStore → Type 0
@@ -59,8 +67,32 @@ parts_content S T before after same files key =
     ap (λ (c : Content). read_in c key)
     (ap (λ (p : Places). rows_of after p T.parts.tree) same.0 ∙ ap (λ (i : Tree). rows_of after S.parts.table i) same.1 ∙ rows_same before after S.parts.table S.parts.tree files)
 
-pub as_was : (S T : LogStore) (before after : Image) → files_of T.parts.log ≡ files_of S.parts.log → SameParts S T → ((n : ℕ) → file_in after (log_name n) ≡ file_in before (log_name n)) → IsAsWas S T before after
-as_was S T before after files same images = record { files = files; indexed = parts_indexed S T same; content = parts_content S T before after same images }
+-- the statistics are the same where the rows and the index are
+pub parts_counted : (old new : Parts) → new.stats.rows ≡ old.stats.rows → new.tree ≡ old.tree → (kept : Kept) → AreCounted kept old → AreCounted kept new
+parts_counted old new rows tree kept counted = record {
+  ascend = subst (λ (l : List FileCount). IsStrictlyIncreasing (numbers_of l)) (sym rows) counted.ascend;
+  each = λ n. subst (λ (l : List FileCount). Contains (numbers_of l) n ↔ IsSome (file_in kept.files (log_name n))) (sym rows) (counted.each n);
+  sizes = subst (λ (l : List FileCount). All (λ row. row.size ≡ length (bytes_in kept.files (log_name row.number))) l) (sym rows) counted.sizes;
+  live = record {
+    rows = subst (λ (l : List FileCount). All (IsFigured kept new.tree) l) (sym rows) (subst (λ (i : Tree). All (IsFigured kept i) old.stats.rows) (sym tree) counted.live.rows);
+    apart = counted.live.apart;
+    listed = λ n at item key counts of_key. subst (λ (l : List FileCount). Contains (numbers_of l) n) (sym rows) (counted.live.listed n at item key counts of_key);
+  };
+}
+
+pub as_was : (S T : LogStore) (before after : Image) → files_of T.parts.log ≡ files_of S.parts.log → SameParts S T → T.parts.stats.rows ≡ S.parts.stats.rows → ((n : ℕ) → file_in after (log_name n) ≡ file_in before (log_name n)) → IsAsWas S T before after
+as_was S T before after files same rows images = record {
+  files = files;
+  indexed = parts_indexed S T same;
+  content = parts_content S T before after same images;
+  counted = parts_counted S.parts T.parts rows same.1;
+}
+
+-- they are those of the same files, as what writes them goes on
+pub still_counted : (S T : LogStore) (a b : HostState) (frames : List Frame) (records : List Item) → number T ≡ number S → ((n : ℕ) → file_in b.files (log_name n) ≡ file_in a.files (log_name n))
+    → AreCounted (record { number = number S; items = placed_of frames records; files = a.files }) T.parts → AreCounted (record { number = number T; items = placed_of frames records; files = b.files }) T.parts
+still_counted S T a b frames records file same counted =
+    subst (λ (n : ℕ). AreCounted (record { number = n; items = placed_of frames records; files = b.files }) T.parts) (sym file) (counted_files (number S) (placed_of frames records) a.files b.files T.parts same counted)
 
 pub same_rows : (S T : LogStore) → files_of T.parts.log ≡ files_of S.parts.log → T.parts.requests.waiting ≡ S.parts.requests.waiting → (log_facts T).parts ≡ (log_facts S).parts
 same_rows S T files waiting =
@@ -76,7 +108,9 @@ still_stands S T a b frames records stands kept late still =
     (subst (λ (f : LogFiles). HoldsLog (record f { store = 0 }) b frames records) (sym kept.files)
     (stands.log.0, holds_still (main_files S) (main_files S).spoilt a b (record { closed = stands.log.0; frames = frames; records = records }) still stands.log.1))
     (subst (λ (f : LogFiles). IsNamed 0 (writer_of f) (number_of f)) (sym kept.files) stands.named)
-    (kept.indexed (record { number = number S; items = placed_of frames records; files = a.files }) stands.indexed) (ap next_seq_of kept.files) late
+    (kept.indexed (record { number = number S; items = placed_of frames records; files = a.files }) stands.indexed)
+    (still_counted S T a b frames records (ap number_of kept.files) (λ n. still.files (log_name n)) (kept.counted (record { number = number S; items = placed_of frames records; files = a.files }) stands.counted))
+    (ap next_seq_of kept.files) late
 
 pub still_leaves : (a b : HostState) → disk.Stands a b → Leaves owns_file false a b
 still_leaves a b still = record { files = λ name other. still.files name; images = Stands-moves a b _ still }

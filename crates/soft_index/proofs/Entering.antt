@@ -1,6 +1,6 @@
 -- What the parts stand for after a change.
 use Rattle.std.proofs.Common.{◌≡◌, ⊎_elim, inl, inr, ℕ, ◌+◌, ◌≤◌, ◌<◌, true, false, Bool, List, [], ◌∷◌, ◌++◌, length, drop, Option, Some, None, Contains, refl, sym, ◌∙◌, ap, subst, arith}
-use Rattle.std.specs.Prelude.{All, Ok, if◌then◌else◌, min}
+use Rattle.std.specs.Prelude.{All, Ok, if◌then◌else◌, min, option_map}
 use Rattle.std.proofs.lemmas.List.{length-drop, length-append}
 use Rattle.cache_model.specs.declared.entries.Change.{Change}
 use Rattle.cache_model.specs.declared.files.Place.{Place}
@@ -18,7 +18,7 @@ use Rattle.data_file.proofs.Bytes.{due_version, next_place-is}
 use Rattle.data_file.proofs.Frame.{placed_of}
 use Rattle.append_log.proofs.Places.{in_written}
 use Rattle.append_log.specs.declared.log_calls.Log.{Log}
-use Rattle.append_log.specs.Current.{IsLogOf, files_of, store_of, tail_by}
+use Rattle.append_log.specs.Current.{IsLogOf, files_of, store_of, tail_by, tail_of}
 use Rattle.append_log.specs.Current.{IsUsable as IsUsableLog}
 use Rattle.append_log.specs.Calls.{Goes, IsPut}
 use Rattle.compactor.specs.declared.parts.Parts.{Parts}
@@ -27,7 +27,7 @@ use Rattle.cache_model.specs.declared.index.IndexKey.{IndexKey}
 use Rattle.cache_model.specs.declared.index.IndexValue.{IndexValue}
 use Rattle.temporary_table.specs.Queue.{Queue}
 use Rattle.tree_index.specs.Index.{AreOrdered, Index, value_at}
-use Rattle.compactor.specs.Indexing.{AreApart, AreIndexed, AreUsable, IsEntryOf, IsNewestEntry, IsPutToFile, is_removal, last_put}
+use Rattle.compactor.specs.Indexing.{AllFind, AreApart, AreIndexed, AreUsable, IsEntryOf, IsNewestEntry, IsPutToFile, is_removal, last_put}
 use Rattle.compactor.specs.Indexing.{IsPut as IsPutBy}
 use Rattle.compactor.specs.Stepping.{Notes, Seats}
 use Rattle.compactor.proofs.Rows.{reading_once}
@@ -35,11 +35,13 @@ use Rattle.store_trait.specs.Meaning.{read_in, changed}
 use Rattle.store_trait.specs.Meaning.{key_of as change_key}
 use Rattle.store_trait.specs.Keeping.{SameContent}
 use Rattle.store_trait.specs.Calls.{Plainly}
+use Rattle.file_stats.specs.Figures.{Figures}
 use Rattle.soft_index.specs.declared.log_store.LogStore.{LogStore}
+use Rattle.soft_index.specs.Counted.{AreCounted, CountsWritten}
 use Rattle.soft_index.specs.Store.{Holds, LogStands, MakesRoom, Queues, content_of, current_of, item_by, log_facts, next_of, number, row_of, writer}
 use Rattle.soft_index.specs.Laws.{reading-same}
 use Rattle.soft_index.proofs.Images.{holds_more, holds_new, holds_only, item_key, item_seq, reading_more}
-use Rattle.soft_index.proofs.Changes.{IsAsWas, current_by_tail}
+use Rattle.soft_index.proofs.Changes.{IsAsWas, current_by_tail, parts_counted}
 use Rattle.soft_index.proofs.Indexing.{indexed_content, indexed_stands}
 use Rattle.soft_index.proofs.There.{there_by}
 
@@ -48,9 +50,10 @@ use Rattle.soft_index.proofs.There.{there_by}
 -- a key that has a seat leaves what the parts stand for
 pub seats_indexed : (key : List ℕ) (old new : Parts) (counts : Counts) → Seats key old new → AreIndexed counts old → AreIndexed counts new
 seats_indexed key old new counts seats is = record {
-  queued = λ k. seats.places k ∙ is.queued k ∙ ap (λ (q : Queue). last_put k q.waiting) (sym seats.requests);
+  queued = λ k. ap (λ seat. option_map (λ s. s.0) seat) (seats.places k) ∙ is.queued k ∙ ap (λ (q : Queue). last_put k q.waiting) (sym seats.requests);
   requested = subst (λ (q : Queue). All (IsPutBy counts) q.waiting) (sym seats.requests) is.requested;
   apart = subst (λ (q : Queue). AreApart q.waiting) (sym seats.requests) is.apart;
+  swaps = subst (λ (q : Queue). AllFind counts new.tree q.waiting) (sym seats.requests) (subst (λ (t : Index). AllFind counts t old.requests.waiting) (sym seats.tree) is.swaps);
   placed = λ k place gone there. is.placed k place gone (sym (seats.places k) ∙ there);
   indexed = subst (λ (t : Index). (at : IndexKey) (value : IndexValue) → value_at t.entries at ≡ Some value → (k : List ℕ) × IsEntryOf counts t.bits k at value) (sym seats.tree) is.indexed;
   single = subst (λ (t : Index). (one other : IndexKey) (v w : IndexValue) (k : List ℕ) → value_at t.entries one ≡ Some v → value_at t.entries other ≡ Some w → IsEntryOf counts t.bits k one v → IsEntryOf counts t.bits k other w → one ≡ other) (sym seats.tree) is.single;
@@ -122,8 +125,8 @@ put_content S T a b frames fs records rs change stands now same key =
     (λ n at item of_key holds. same.kept n at item key holds of_key) (λ n at item of_key holds. same.only n at item key holds of_key) (stands.content key)))
 
 -- the parts may be used, once a key has a seat and the log wrote its record
-pub seats_usable : (key : List ℕ) (old new : Parts) (log : Log) → Seats key old new → AreUsable old → IsUsableLog (files_of log) → store_of (files_of log) ≡ 0 → AreUsable (record new { log = log })
-seats_usable key old new log seats usable ready main = record {
+pub seats_usable : (key : List ℕ) (old new : Parts) (log : Log) (reserved figures : Figures) → Seats key (record old { stats = reserved }) new → AreUsable old → IsUsableLog (files_of log) → store_of (files_of log) ≡ 0 → AreUsable (record new { log = log; stats = figures })
+seats_usable key old new log reserved figures seats usable ready main = record {
   unspoilt = seats.spoilt ∙ usable.unspoilt;
   log = ready;
   main = main;
@@ -147,25 +150,36 @@ current_number (Some log) store file unsealed tail is there =
 
 -- where a store goes on as it was between two moments at which nothing changed
 pub was_by : (S T : LogStore) (a b : HostState) (frames : List Frame) (records : List Item) → LogStands S a frames records → files_of T.parts.log ≡ files_of S.parts.log
-    → ((kept : Kept) → AreIndexed (counts_in kept) S.parts → AreIndexed (counts_in kept) T.parts) → disk.Stands a b → S.latest ≤ T.latest → IsAsWas S T a.files b.files
-was_by S T a b frames records stands files indexed still late = record {
-  files = files;
-  indexed = indexed;
-  content = indexed_content S T a b frames records stands
-      (indexed_stands S T a b frames records stands files (λ is there. indexed (record { number = number S; items = placed_of frames records; files = a.files }) is) still late) files still;
-}
+    → ((kept : Kept) → AreIndexed (counts_in kept) S.parts → AreIndexed (counts_in kept) T.parts) → ((kept : Kept) → AreCounted kept S.parts → AreCounted kept T.parts)
+    → disk.Stands a b → S.latest ≤ T.latest → IsAsWas S T a.files b.files
+was_by S T a b frames records stands files indexed counted still late =
+    let kept : Kept = record { number = number S; items = placed_of frames records; files = a.files } in
+    record {
+      files = files;
+      indexed = indexed;
+      content = indexed_content S T a b frames records stands (indexed_stands S T a b frames records stands files (λ is there. indexed kept is) (counted kept stands.counted) still late) files still;
+      counted = counted;
+    }
 
--- where a seat was given or taken away
-pub seated_was : (key : List ℕ) (S T : LogStore) (a : HostState) (frames : List Frame) (records : List Item) → LogStands S a frames records → Seats key S.parts T.parts → S.latest ≤ T.latest → IsAsWas S T a.files a.files
-seated_was key S T a frames records stands seats late =
-    was_by S T a a frames records stands (ap files_of seats.log) (λ kept is. seats_indexed key S.parts T.parts (counts_in kept) seats is) (Stands-same a) late
+-- where a seat was given or taken away, once there was room for a row
+pub seated_was : (key : List ℕ) (S T : LogStore) (a : HostState) (frames : List Frame) (records : List Item) (reserved : Figures) → LogStands S a frames records → reserved.rows ≡ S.parts.stats.rows
+    → Seats key (record S.parts { stats = reserved }) T.parts → S.latest ≤ T.latest → IsAsWas S T a.files a.files
+seated_was key S T a frames records reserved stands rows seats late =
+    was_by S T a a frames records stands (ap files_of seats.log) (λ kept is. seats_indexed key (record S.parts { stats = reserved }) T.parts (counts_in kept) seats is)
+    (parts_counted S.parts T.parts (ap (λ (f : Figures). f.rows) seats.stats ∙ rows) seats.tree) (Stands-same a) late
 
--- A key has a seat in the parts, the log wrote the record of a change, and its place was noted.
+-- There is room for a row, a key has a seat in the parts, the log wrote the record of a change, the statistics were
+-- brought up to it, and its place was noted.
 pub record Entered (change : Change) (place : Place) (gone : Bool) (S T : LogStore) : Type 0 where
+  pub reserved : Figures
+  pub rows : reserved.rows ≡ S.parts.stats.rows
+  pub room : 1 ≤ reserved.spare
   pub seated : Parts
   pub log : Log
-  pub seats : Seats (change_key change) S.parts seated
-  pub notes : Notes (change_key change) place gone (record seated { log = log }) T.parts
+  pub figures : Figures
+  pub seats : Seats (change_key change) (record S.parts { stats = reserved }) seated
+  pub counts : CountsWritten (tail_of (files_of S.parts.log)) (tail_of (files_of log)) reserved figures
+  pub notes : Notes (change_key change) place gone (record seated { log = log; stats = figures }) T.parts
   pub gone_is : gone ≡ is_removal (item_by (next_of S) change)
   pub latest : S.latest ≤ T.latest
 
@@ -183,7 +197,7 @@ module _ (change : Change) (place : Place) (gone : Bool) (S T : LogStore) (momen
   pub entered_usable : AreUsable T.parts
   entered_usable =
       entered.notes.usable
-      (seats_usable (change_key change) S.parts entered.seated entered.log entered.seats ready (subst (λ (l : Log). IsUsableLog (files_of l)) entered.notes.log usable_log) (subst (λ (l : Log). store_of (files_of l) ≡ 0) entered.notes.log main))
+      (seats_usable (change_key change) S.parts entered.seated entered.log entered.reserved entered.figures entered.seats ready (subst (λ (l : Log). IsUsableLog (files_of l)) entered.notes.log usable_log) (subst (λ (l : Log). store_of (files_of l) ≡ 0) entered.notes.log main))
       at_number.1
 
   pub entered_limit : T.parts.requests.limit ≡ S.parts.requests.limit
@@ -194,6 +208,14 @@ module _ (change : Change) (place : Place) (gone : Bool) (S T : LogStore) (momen
 
   pub entered_bits : T.parts.tree.bits ≡ S.parts.tree.bits
   entered_bits = ap (λ (t : Index). t.bits) entered.notes.tree ∙ ap (λ (t : Index). t.bits) entered.seats.tree
+
+  pub entered_tree : T.parts.tree ≡ S.parts.tree
+  entered_tree = entered.notes.tree ∙ entered.seats.tree
+
+  pub entered_counts : CountsWritten (tail_of (files_of S.parts.log)) (tail_of (files_of T.parts.log)) entered.reserved T.parts.stats
+  entered_counts =
+      subst (λ (f : Figures). CountsWritten (tail_of (files_of S.parts.log)) (tail_of (files_of T.parts.log)) entered.reserved f) (sym entered.notes.stats)
+      (subst (λ (l : Log). CountsWritten (tail_of (files_of S.parts.log)) (tail_of (files_of l)) entered.reserved entered.figures) (sym entered.notes.log) entered.counts)
 
   pub entered_spoilt : T.parts.spoilt ≡ S.parts.spoilt
   entered_spoilt = entered.notes.spoilt ∙ entered.seats.spoilt
@@ -229,7 +251,7 @@ module _ (change : Change) (place : Place) (gone : Bool) (S T : LogStore) (momen
       subst (λ (n : ℕ). Adds (counts_in before) (counts_in after) (change_key change) n place.at one) at_number.0
       (subst (λ (n : ℕ). Adds (counts_in before) (counts_in after) (change_key change) (number T) n one) (sym at) all)
       in
-      entered.notes.indexed before after one (seats_indexed (change_key change) S.parts entered.seated (counts_in before) entered.seats stands.indexed) here
+      entered.notes.indexed before after one (seats_indexed (change_key change) (record S.parts { stats = entered.reserved }) entered.seated (counts_in before) entered.seats stands.indexed) here
       (record { long = put.length_is; gone_is = entered.gone_is })
 
   -- what it is to the store whatever the host tells
@@ -244,6 +266,7 @@ module _ (change : Change) (place : Place) (gone : Bool) (S T : LogStore) (momen
       moves = λ c a b. (subst (λ (n : ℕ). Queues n a b) entered_limit, subst (λ (n : ℕ). Queues n a b) (sym entered_limit));
       empties = λ a b. (λ x. x, λ x. x);
       room = λ a b. (subst (λ (n : ℕ). MakesRoom n a b) entered_limit, subst (λ (n : ℕ). MakesRoom n a b) (sym entered_limit));
+      counts = λ files figures a b. (λ x. x, λ x. x);
     };
     usable = λ unspoilt. entered_usable;
     unspoilt = entered_spoilt ∙ sound;

@@ -26,8 +26,9 @@ use Rattle.store_trait.specs.Meaning.{Content, Row, StoreFacts, StoreState}
 use Rattle.store_trait.specs.Keeping.{SameContent}
 use Rattle.store_trait.specs.Calls.{Acts, Stepped}
 use Rattle.soft_index.specs.declared.log_store.LogStore.{LogStore}
+use Rattle.soft_index.specs.Counted.{AreCounted}
 use Rattle.soft_index.specs.Store.{Holds, HoldsLog, Indexes, IsNamed, LogStands, MakesRoom, Queues, content_of, current_of, log_facts, log_means, main_files, number, row_of, writer}
-use Rattle.soft_index.proofs.Changes.{same_rows, still_leaves}
+use Rattle.soft_index.proofs.Changes.{same_rows, still_counted, still_leaves}
 use Rattle.soft_index.proofs.Images.{call_acts}
 use Rattle.soft_index.proofs.Standing.{content_same, same_records, stands_same}
 use Rattle.soft_index.proofs.There.{there_by}
@@ -35,15 +36,16 @@ use Rattle.soft_index.proofs.There.{there_by}
 -- the store stands for the same after it
 pub indexed_stands : (S T : LogStore) (a b : HostState) (frames : List Frame) (records : List Item) → LogStands S a frames records → files_of T.parts.log ≡ files_of S.parts.log
     → (AreIndexed (Holds (number S) (placed_of frames records) a.files) S.parts → AreThere (Holds (number S) (placed_of frames records) a.files) a.files → AreIndexed (Holds (number S) (placed_of frames records) a.files) T.parts)
+    → AreCounted (record { number = number S; items = placed_of frames records; files = a.files }) T.parts
     → disk.Stands a b → S.latest ≤ T.latest → LogStands T b frames records
-indexed_stands S T a b frames records stands files indexed still late =
+indexed_stands S T a b frames records stands files indexed counted still late =
     stands_same S T a b frames records (CountsFrames frames) stands (ap number_of files)
     (Stands-moves a b (OnFile (log_name (number S)) (CountsFrames frames)) still) (SameBut-files (log_name (number S)) a.files b.files still.files)
     (ap store_of files ∙ stands.main)
     (subst (λ (f : LogFiles). HoldsLog (record f { store = 0 }) b frames records) (sym files)
     (stands.log.0, holds_still (main_files S) (main_files S).spoilt a b (record { closed = stands.log.0; frames = frames; records = records }) still stands.log.1))
     (subst (λ (f : LogFiles). IsNamed 0 (writer_of f) (number_of f)) (sym files) stands.named)
-    (indexed stands.indexed (there_by S a frames records stands.log stands.named)) (ap next_seq_of files) late
+    (indexed stands.indexed (there_by S a frames records stands.log stands.named)) (still_counted S T a b frames records (ap number_of files) (λ n. still.files (log_name n)) counted) (ap next_seq_of files) late
 
 -- and reads the same
 pub indexed_content : (S T : LogStore) (a b : HostState) (frames : List Frame) (records : List Item) → (stands : LogStands S a frames records) → LogStands T b frames records → files_of T.parts.log ≡ files_of S.parts.log → disk.Stands a b
@@ -69,13 +71,14 @@ pub index_acts : (S T : LogStore) (a b : HostState) (frames : List Frame) (recor
     → LogStands S a frames records → S.parts.spoilt ≡ false → S.latest ≤ moment → T.latest ≡ moment
     → StepsIndex S.parts T.parts result
     → (AreIndexed (Holds (number S) (placed_of frames records) a.files) S.parts → AreThere (Holds (number S) (placed_of frames records) a.files) a.files → KeepsIndex (Holds (number S) (placed_of frames records) a.files) T.parts result)
+    → (T.parts.spoilt ≡ false → AreCounted (record { number = number S; items = placed_of frames records; files = a.files }) T.parts)
     → ((s : Spent) → IsErrOf result (fault.Spent s) → ⊥)
     → disk.Stands a b
     → Acts (log_facts S) (log_facts T) (log_means S a) (log_means T b) a b moment wanted result
-index_acts S T a b frames records moment wanted result stands sound late latest steps keeps unspent still =
+index_acts S T a b frames records moment wanted result stands sound late latest steps keeps counted unspent still =
     let there = there_by S a frames records stands.log stands.named in
     let now : T.parts.spoilt ≡ false → LogStands T b frames records =
-    λ unspoilt. indexed_stands S T a b frames records stands (steps.log unspoilt) (λ indexed all. (keeps indexed all).indexed unspoilt) still (omega (arith, late, latest))
+    λ unspoilt. indexed_stands S T a b frames records stands (steps.log unspoilt) (λ indexed all. (keeps indexed all).indexed unspoilt) (counted unspoilt) still (omega (arith, late, latest))
     in
     let content : T.parts.spoilt ≡ false → SameContent (content_of S a.files) (content_of T b.files) = λ unspoilt. indexed_content S T a b frames records stands (now unspoilt) (steps.log unspoilt) still in
     call_acts S T a b frames records moment wanted (λ d c. ⊥) stands (Stands-moves a b (λ d c. ⊥) still) (λ d c left none. absurd none) sound late latest (λ unspoilt. inr (content unspoilt))
@@ -92,21 +95,22 @@ pub index_told : (S T : LogStore) (a b : HostState) (frames : List Frame) (recor
     → LogStands S a frames records → S.parts.spoilt ≡ false → S.latest ≤ moment → T.latest ≡ moment
     → StepsIndex S.parts T.parts result
     → (AreIndexed (Holds (number S) (placed_of frames records) a.files) S.parts → AreThere (Holds (number S) (placed_of frames records) a.files) a.files → KeepsIndex (Holds (number S) (placed_of frames records) a.files) T.parts result)
+    → (T.parts.spoilt ≡ false → AreCounted (record { number = number S; items = placed_of frames records; files = a.files }) T.parts)
     → ((s : Spent) → IsErrOf result (fault.Spent s) → ⊥)
     → disk.Stands a b
     → Stepped Index (log_facts S) (log_facts T) (log_means S a) (log_means T b) a b moment result
-index_told S T a b frames records moment (Ok turned) stands sound late latest steps keeps unspent still =
+index_told S T a b frames records moment (Ok turned) stands sound late latest steps keeps counted unspent still =
     let unspoilt = steps.unspoilt in
-    let now = indexed_stands S T a b frames records stands (steps.log unspoilt) (λ indexed all. (keeps indexed all).indexed unspoilt) still (omega (arith, late, latest)) in
+    let now = indexed_stands S T a b frames records stands (steps.log unspoilt) (λ indexed all. (keeps indexed all).indexed unspoilt) (counted unspoilt) still (omega (arith, late, latest)) in
     let content = indexed_content S T a b frames records stands now (steps.log unspoilt) still in
     record {
-      acts = index_acts S T a b frames records moment (content_of S a.files) (Ok turned) stands sound late latest steps keeps unspent still;
+      acts = index_acts S T a b frames records moment (content_of S a.files) (Ok turned) stands sound late latest steps keeps counted unspent still;
       content = λ key. inl (content key);
       marks = λ key r m may. inl (content key);
       parts = index_rows turned S T (steps.log unspoilt) steps.popped;
     }
-index_told S T a b frames records moment (Err f) stands sound late latest steps keeps unspent still = record {
-  acts = index_acts S T a b frames records moment (content_of S a.files) (Err f) stands sound late latest steps keeps unspent still;
+index_told S T a b frames records moment (Err f) stands sound late latest steps keeps counted unspent still = record {
+  acts = index_acts S T a b frames records moment (content_of S a.files) (Err f) stands sound late latest steps keeps counted unspent still;
   content = tt;
   marks = tt;
   parts = tt;

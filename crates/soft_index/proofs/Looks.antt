@@ -26,11 +26,12 @@ pub record LooksSame (old new : Parts) : Type 0 where
   pub tree : new.tree ≡ old.tree
   pub table : new.table ≡ old.table
   pub requests : new.requests ≡ old.requests
+  pub stats : new.stats ≡ old.stats
   pub log : files_of new.log ≡ files_of old.log
   pub usable : AreUsable new
 
 pub looks_first : (old : Parts) → AreUsable old → LooksSame old old
-looks_first old usable = record { tree = refl; table = refl; requests = refl; log = refl; usable = usable }
+looks_first old usable = record { tree = refl; table = refl; requests = refl; stats = refl; log = refl; usable = usable }
 
 module _ (old mid : Parts) (same : LooksSame old mid) where
   -- one look more
@@ -39,6 +40,7 @@ module _ (old mid : Parts) (same : LooksSame old mid) where
     tree = looks.tree ∙ same.tree;
     table = looks.table ∙ same.table;
     requests = looks.requests ∙ same.requests;
+    stats = looks.stats ∙ same.stats;
     log = looks.log looks.unspoilt ∙ same.log;
     usable = looks.usable looks.unspoilt;
   }
@@ -52,6 +54,7 @@ module _ (old mid : Parts) (same : LooksSame old mid) where
     tree = looks.tree ∙ same.tree;
     table = looks.table ∙ same.table;
     requests = looks.requests ∙ same.requests;
+    stats = looks.stats ∙ same.stats;
     log = λ unspoilt. looks.log unspoilt ∙ same.log;
     same_log = looks_log new (Ok x) looks;
     usable = looks.usable;
@@ -64,6 +67,7 @@ module _ (old mid : Parts) (same : LooksSame old mid) where
     tree = looks.tree ∙ same.tree;
     table = looks.table ∙ same.table;
     requests = looks.requests ∙ same.requests;
+    stats = looks.stats ∙ same.stats;
     log = λ unspoilt. looks.log unspoilt ∙ same.log;
     same_log = looks_log new (Err f) looks;
     usable = looks.usable;
@@ -80,6 +84,7 @@ module _ (old mid : Parts) (same : LooksSame old mid) where
     tree = same.tree;
     table = same.table;
     requests = same.requests;
+    stats = same.stats;
     log = λ unspoilt. same.log;
     same_log = ap (λ (f : LogFiles). with_spoilt f (is_spoilt_log (files_of mid.log))) same.log;
     usable = λ unspoilt. same.usable;

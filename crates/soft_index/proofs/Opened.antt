@@ -1,8 +1,13 @@
 -- A store that was made of what was found stands for what its files hold.
-use Rattle.std.proofs.Common.{◌≡◌, inl, inr, ℕ, ◌≤◌, ◌<◌, List, [], Option, Some, None, IsSome, refl, sym, ◌∙◌, ap, subst, arith}
+use Rattle.std.proofs.Common.{◌≡◌, inl, inr, ℕ, ◌≤◌, ◌<◌, false, true, List, [], length, get_or, Contains, Option, Some, None, IsSome, refl, sym, ◌∙◌, ap, subst, arith}
+use Rattle.std.specs.Prelude.{◌↔◌, IsTrue, unwrap_or}
+use Rattle.std.proofs.lemmas.List.Elements.{Contains-get_or}
+use Rattle.cache_model.specs.declared.files.FileCount.{FileCount}
 use Rattle.cache_model.specs.declared.settings.Settings.{Settings}
-use Rattle.cache_model.specs.Files.{Image, file_in}
-use Rattle.cache_model.specs.Items.{Item, end}
+use Rattle.cache_model.specs.Files.{Image, bytes_in, file_in}
+use Rattle.cache_model.specs.Items.{Item, end, spelling}
+use Rattle.cache_model.specs.DataFiles.{counted_items}
+use Rattle.cache_model.proofs.Members.{map-among}
 use Rattle.cache_model.specs.Images.{log_name, IsCounted, IsMark, IsSound}
 use Rattle.cache_model.specs.Numbers.{IsNextFile, IsNextSequence}
 use Rattle.cache_disk.specs.State.{HostState, SameFiles}
@@ -13,17 +18,24 @@ use Rattle.append_log.specs.Current.{IsEnded}
 use Rattle.append_log.specs.Standing.{Stands as HoldsFiles, nothing_held}
 use Rattle.file_stats.specs.declared.file_list.Found.{Found}
 use Rattle.tree_index.specs.Index.{Index}
-use Rattle.compactor.specs.Counting.{CountSame}
+use Rattle.compactor.specs.Counting.{CountSame, Kept}
+use Rattle.compactor.specs.Figuring.{has_entry, live_in}
+use Rattle.compactor.specs.Recounting.{IsLiveIn}
 use Rattle.compactor.specs.Indexing.{AreIndexed, IsIndexed}
 use Rattle.compactor.proofs.Rows.{rows_read}
 use Rattle.rebuild.specs.Listing.{SameLogs}
-use Rattle.rebuild.specs.Rebuilt.{IsRebuilt}
+use Rattle.rebuild.specs.Rebuilt.{IsLive, IsRebuilt, IsRowOf}
 use Rattle.store_trait.specs.Meaning.{read_in}
 use Rattle.soft_index.specs.declared.log_store.LogStore.{LogStore}
+use Rattle.soft_index.specs.Counted.{AreCounted}
 use Rattle.soft_index.specs.Laws.{reading-same}
 use Rattle.soft_index.specs.Opening.{IsMadeOf}
 use Rattle.soft_index.specs.Store.{HasReading, Holds, HoldsLog, IsFileOf, IsNamed, IsOpened, content_of, main_files, next_file, next_of, number, writer}
+use Rattle.soft_index.proofs.Counted.{counted_by, items_other, lives_of, size_of_file, size_there}
+use Rattle.soft_index.proofs.Raised.{AreRows, IsRowBy}
 use Rattle.soft_index.proofs.Rebuilt.{indexed_rebuilt}
+use Rattle.soft_index.proofs.Recounted.{entry_is_live, sum_passing}
+use Rattle.soft_index.proofs.Sizes.{sizes_in}
 use Rattle.soft_index.proofs.Standing.{indexed_by}
 use Rattle.soft_index.proofs.There.{there_by}
 
@@ -107,6 +119,59 @@ module _ (a b : HostState) (found : Found) (tree : Index) (settings : Settings) 
   reads : (key : List ℕ) → HasReading (Holds (number store) (placed_of [] []) b.files) key (read_in (content_of store b.files) key)
   reads = rows_read (Holds (number store) (placed_of [] []) b.files) b.files store.parts.table store.parts.tree store.parts.requests.waiting indexed (there_by store b [] [] log named)
 
+  -- the statistics
+
+  abbrev kept_now : Kept
+  kept_now = record { number = number store; items = placed_of [] []; files = b.files }
+
+  bytes_there : (n : ℕ) → bytes_in b.files (log_name n) ≡ bytes_in a.files (log_name n)
+  bytes_there n = ap (λ (found : Option (List ℕ)). unwrap_or found []) (there n)
+
+  -- what is live of a file is what the index has entries of
+  live_there : (n : ℕ) (one : ℕ × Item) → Contains (counted_items (bytes_in a.files (log_name n))) one → (n ≡ number store → ⊥) → (IsLive a.files n one ↔ IsTrue (has_entry store.parts.tree n one))
+  live_there n one among other = (
+    λ live. entry.1 (
+      live.0,
+      record {
+        counted = kept n one.0 one.1 live.1.counted;
+        of_key = live.1.of_key;
+        newest = λ m at item counts of_key. live.1.newest m at item (only m at item counts) of_key;
+      },
+    ),
+    λ some. let live = entry.0 some in (
+      live.0,
+      record {
+        counted = only n one.0 one.1 live.1.counted;
+        of_key = live.1.of_key;
+        newest = λ m at item counts of_key. live.1.newest m at item (kept m at item counts) of_key;
+      },
+    ),
+  )
+    where
+      entry : IsTrue (has_entry store.parts.tree n one) ↔ IsLiveIn kept_now n one
+      entry = entry_is_live kept_now b.files store.parts.table store.parts.tree store.parts.requests.waiting indexed (there_by store b [] [] log named) made.empty n one
+          (subst (λ (l : List (ℕ × Item)). Contains l one) (sym (items_other kept_now n other ∙ ap counted_items (bytes_there n))) among)
+
+  rows_there : AreRows (sizes_in b.files) (lives_of kept_now store.parts.tree) found.files
+  rows_there = record {
+    ascend = made.ascend;
+    each = λ n some. (rebuilt.rows.each n).1 (subst (λ (f : Option (List ℕ)). IsSome f) (there n) (size_there b.files n some));
+    are = λ k d within. row_there (get_or found.files k d) ((rebuilt.rows.each (get_or found.files k d).number).0 (map-among (λ (row : FileCount). row.number) found.files (get_or found.files k d) (Contains-get_or found.files k d within))) (rebuilt.rows.figures k d within);
+  }
+    where
+      row_there : (row : FileCount) → IsSome (file_in a.files (log_name row.number)) → IsRowOf a.files row → IsRowBy (sizes_in b.files) (lives_of kept_now store.parts.tree) row
+      row_there row some is =
+          let other : row.number ≡ number store → ⊥ = λ here. let no : false ≡ true = subst (λ (f : Option (List ℕ)). IsSome f) (beyond row.number (omega (arith, here))) some in cc in (
+            size_of_file b.files row.number (subst (λ (f : Option (List ℕ)). IsSome f) (sym (there row.number)) some) ∙ ap (λ n. Some n) (ap length (bytes_there row.number) ∙ sym is.size),
+            is.live.adds_up
+                ∙ sum_passing is.live.is_live (has_entry store.parts.tree row.number) (λ one. length (spelling one.1)) (counted_items (bytes_in a.files (log_name row.number)))
+                (λ one among. let just = is.live.just one among in let live = live_there row.number one among other in (λ x. live.0 (just.0 x), λ x. just.1 (live.1 x)))
+                ∙ ap (λ (l : List (ℕ × Item)). live_in store.parts.tree row.number l) (sym (items_other kept_now row.number other ∙ ap counted_items (bytes_there row.number))),
+          )
+
+  counted : AreCounted kept_now store.parts
+  counted = counted_by store b [] [] log named (subst (AreRows (sizes_in b.files) (lives_of kept_now store.parts.tree)) (sym made.rows_are) rows_there)
+
   -- The store is opened.
   pub opened_of : IsOpened a.files b settings store store.latest
   opened_of = record {
@@ -118,6 +183,7 @@ module _ (a b : HostState) (found : Found) (tree : Index) (settings : Settings) 
       sound = λ n bytes other is. sound n bytes (sym (there n) ∙ is);
       indexed = indexed;
       content = reads;
+      counted = counted;
       above = λ n at item key counted of_key. next_is.above n at item key (only n at item counted) of_key;
       mark = λ n at m counted. mark_is.bound n at m (only n at (end m) counted);
     };

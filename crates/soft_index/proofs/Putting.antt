@@ -8,9 +8,9 @@ use Rattle.cache_model.specs.Items.{Item}
 use Rattle.cache_model.specs.DataFiles.{Frame, CountsFrames, IsUndamaged, placed_frames}
 use Rattle.cache_model.specs.Images.{log_name, IsCounted}
 use Rattle.cache_disk.specs.State.{HostState, Moves, SameBut}
-use Rattle.data_file.specs.Appending.{written}
+use Rattle.data_file.specs.Appending.{next_place, written}
 use Rattle.append_log.specs.declared.log_files.LogFiles.{LogFiles}
-use Rattle.append_log.specs.Current.{IsUsable as IsUsableLog, files_of, store_of, is_over, makes_file, next_file, next_file_of, record_size, tail_by}
+use Rattle.append_log.specs.Current.{IsUsable as IsUsableLog, files_of, store_of, is_over, makes_file, next_file, next_file_of, record_size, tail_by, tail_of}
 use Rattle.append_log.specs.Current as append
 use Rattle.data_file.specs.declared.appender.Appender.{Appender}
 use Rattle.append_log.specs.Standing.{Closed, Held, IsClosedIn, put_held}
@@ -18,10 +18,15 @@ use Rattle.append_log.specs.Calls.{CountsIf, IsPut, OnFiles, PutsBy, SameBeside}
 use Rattle.append_log.proofs.Holding.{next_most, waits-push}
 use Rattle.append_log.proofs.Steps.{current_alone, same_alone}
 use Rattle.store_trait.specs.Keeping.{Leaves, SameWhere}
+use Rattle.file_stats.specs.Figures.{Figures}
 use Rattle.soft_index.specs.declared.log_store.LogStore.{LogStore}
+use Rattle.soft_index.specs.Counted.{AreCounted, CountsWritten}
 use Rattle.soft_index.specs.Store.{Holds, IsPutIn, IsWritten, frames_after, records_after, LogStands, closed_frames, closes, content_of, item_by, is_spent, main_files, next_of, number, owns_file, spent_by, waiting, writer}
 use Rattle.soft_index.specs.Laws.{cases_file}
 use Rattle.soft_index.proofs.Counting.{Counts, counted-within, counted-there, items-counted, no-contained, undamaged-counted}
+use Rattle.soft_index.proofs.Counted.{no_entry}
+use Rattle.soft_index.proofs.Entering.{adds_one}
+use Rattle.soft_index.proofs.Written.{counted_closed, counted_on, pushed_live, pushed_more}
 use Rattle.soft_index.proofs.Images.{CountsBeside, IsAsBefore, IsNewImage, counts_now, foreign_name, other_name, same_beside, sealed_image, step_since}
 use Rattle.data_file.proofs.Frame.{placed_of}
 use Rattle.compactor.specs.Counting.{CountSame}
@@ -168,8 +173,9 @@ pub put_in : (over : Bool) (change : Change) (moment : ℕ) (S T : LogStore) (a 
     → number T ≡ (if over then number S + 1 else number S)
     → PutsBy over (item_by (next_of S) change) moment (record { closed = stands.log.0; frames = frames; records = records }) (main_files S) (files_of T.parts.log) a b (Ok place)
     → AreIndexed (Holds (number T) (placed_of (if over then [] else frames) ((if over then [] else records) ++ item_by (next_of S) change ∷ [])) b.files) T.parts
+    → AreCounted (record { number = number T; items = placed_of (if over then [] else frames) ((if over then [] else records) ++ item_by (next_of S) change ∷ []); files = b.files }) T.parts
     → IsPutIn change moment frames records S T b
-put_in true change moment S T a b frames records place stands is late latest usable main next file puts indexed =
+put_in true change moment S T a b frames records place stands is late latest usable main next file puts indexed counted =
     let held : Held = record { closed = stands.log.0; frames = frames; records = records } in
     let more = closed_frames (waiting S) frames records moment in
     let one : Item = item_by (next_of S) change in
@@ -179,10 +185,10 @@ put_in true change moment S T a b frames records place stands is late latest usa
       holds = subst (λ (o : Bool). LogStands T b (if o then [] else frames) ((if o then [] else records) ++ one ∷ [])) (sym is)
           (stands_behind S T a b frames records moment (CountsIf true frames more) stands file puts.images puts.files (puts.closed refl) last change main
           (stands.log.0 ++ closed ∷ [], to_main (files_of T.parts.log) b (put_held true (waiting S) (number S) moment held one) main puts.stands)
-          (named_main (files_of T.parts.log) main usable) indexed next late latest);
+          (named_main (files_of T.parts.log) main usable) indexed counted next late latest);
       closed = λ over. puts.closed refl;
     }
-put_in false change moment S T a b frames records place stands is late latest usable main next file puts indexed =
+put_in false change moment S T a b frames records place stands is late latest usable main next file puts indexed counted =
     let held : Held = record { closed = stands.log.0; frames = frames; records = records } in
     let more = closed_frames (waiting S) frames records moment in
     let one : Item = item_by (next_of S) change in
@@ -190,7 +196,7 @@ put_in false change moment S T a b frames records place stands is late latest us
       holds = subst (λ (o : Bool). LogStands T b (if o then [] else frames) ((if o then [] else records) ++ one ∷ [])) (sym is)
           (stands_appended S T a b frames records (CountsFrames frames) stands file (current_alone (main_files S) a b frames more puts.images) (same_alone (main_files S) a.files b.files puts.files) change main
           (stands.log.0, to_main (files_of T.parts.log) b (put_held false (waiting S) (number S) moment held one) main puts.stands)
-          (named_main (files_of T.parts.log) main usable) indexed next (omega (arith, late, latest)));
+          (named_main (files_of T.parts.log) main usable) indexed counted next (omega (arith, late, latest)));
       closed = λ over. let no : false ≡ true = sym is ∙ over in cc;
     }
 
@@ -209,6 +215,49 @@ put_records true moment one S T a b frames records place stands main file puts =
 put_records false moment one S T a b frames records place stands main file puts =
     let more = closed_frames (waiting S) frames records moment in
     same_records S T a b frames records (CountsFrames frames) stands file (current_alone (main_files S) a b frames more puts.images) (same_alone (main_files S) a.files b.files puts.files)
+
+-- the statistics go along with it
+
+some_tail : (log : Option Appender) (file : ℕ) (unsealed : Bool) (tail : ℕ × ℕ × Bool) → tail_by log file unsealed ≡ Some tail → is_some log ≡ true
+some_tail None file unsealed tail is = cc
+some_tail (Some log) file unsealed tail is = refl
+
+pub put_counted : (over : Bool) (change : Change) (moment : ℕ) (S T : LogStore) (a b : HostState) (frames : List Frame) (records : List Item) (place : Place) (old : Figures)
+    → (stands : LogStands S a frames records)
+    → closes S change ≡ over
+    → IsUsableLog (files_of S.parts.log) → IsUsableLog (files_of T.parts.log) → store_of (files_of T.parts.log) ≡ 0
+    → IsPut change moment (files_of S.parts.log) (files_of T.parts.log) place
+    → number T ≡ (if over then number S + 1 else number S)
+    → PutsBy over (item_by (next_of S) change) moment (record { closed = stands.log.0; frames = frames; records = records }) (main_files S) (files_of T.parts.log) a b (Ok place)
+    → old.rows ≡ S.parts.stats.rows → 1 ≤ old.spare → T.parts.tree ≡ S.parts.tree
+    → CountsWritten (tail_of (files_of S.parts.log)) (tail_of (files_of T.parts.log)) old T.parts.stats
+    → AreCounted (record { number = number T; items = placed_of (if over then [] else frames) ((if over then [] else records) ++ item_by (next_of S) change ∷ []); files = b.files }) T.parts
+put_counted true change moment S T a b frames records place old stands is usable usable_now main put file puts rows room tree counts =
+    let held : Held = record { closed = stands.log.0; frames = frames; records = records } in
+    let more = closed_frames (waiting S) frames records moment in
+    let one : Item = item_by (next_of S) change in
+    let closed : Closed = record { number = number S; frames = more } in
+    let last = subst (λ (s : ℕ). IsClosedIn s b closed) main (closed_last (store_of (files_of T.parts.log)) b stands.log.0 closed puts.stands.closed) in
+    let none = no_entry (Holds (number S) (placed_of frames records) a.files) S.parts.tree (number T) (next_place [] []) stands.indexed.indexed
+    (λ other key holds of_key. ⊎_elim
+    (λ here. omega (arith, here.0, file))
+    (λ beside. let no : None ≡ Some beside.1.bytes = sym (stands.log.1.beyond (number T) (omega (arith, file, next_most (writer S) (number S)))) ∙ beside.1.there in cc)
+    holds) one in
+    counted_closed S T a b frames [] records (one ∷ []) old stands
+    (stands.log.0 ++ closed ∷ [], to_main (files_of T.parts.log) b (put_held true (waiting S) (number S) moment held one) main puts.stands)
+    (named_main (files_of T.parts.log) main usable_now) rows tree counts moment file puts.files (puts.closed refl) last usable
+    (over_some (writer S) (files_of S.parts.log).file_size (record_size (files_of S.parts.log) change) is) (λ some. room)
+    (pushed_live S.parts.tree (number T) [] [] one none)
+put_counted false change moment S T a b frames records place old stands is usable usable_now main put file puts rows room tree counts =
+    let held : Held = record { closed = stands.log.0; frames = frames; records = records } in
+    let one : Item = item_by (next_of S) change in
+    let none = no_entry (Holds (number S) (placed_of frames records) a.files) S.parts.tree (number S) (next_place frames records) stands.indexed.indexed
+    (λ other key holds of_key. (adds_one (number S) (next_of S) frames records a.files change stands.above).fresh other key holds of_key) one in
+    counted_on S T a b frames frames records (records ++ one ∷ []) old stands
+    (stands.log.0, to_main (files_of T.parts.log) b (put_held false (waiting S) (number S) moment held one) main puts.stands)
+    (named_main (files_of T.parts.log) main usable_now) rows tree counts file (same_alone (main_files S) a.files b.files puts.files)
+    (λ some. some_tail (writer T) (number T) (waiting T) (place.file, place.at + place.length, true) put.tail) (λ none' some. room)
+    (pushed_more frames records one) (pushed_live S.parts.tree (number S) frames records one none)
 
 -- which number is spent
 

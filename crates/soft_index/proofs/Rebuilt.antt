@@ -1,11 +1,12 @@
 -- An index that was rebuilt stands for the newest records.
-use Rattle.std.proofs.Common.{◌≡◌, ⊎_elim, ℕ, ◌≤◌, true, Bool, cond, List, [], ◌∷◌, Option, Some, None, Contains, IsSome, refl, sym, ◌∙◌, ap, subst, arith}
-use Rattle.std.specs.Prelude.{sum_by, unwrap_or}
+use Rattle.std.proofs.Common.{◌≡◌, ⊎_elim, ℕ, ◌≤◌, true, Bool, cond, List, [], ◌∷◌, ◌++◌, Option, Some, None, Contains, IsSome, refl, sym, ◌∙◌, ap, subst, arith}
+use Rattle.std.specs.Prelude.{option_map, sum_by, unwrap_or}
 use Rattle.std.specs.Map.{lookup}
 use Rattle.std.specs.Str.{bytes_eq}
 use Rattle.std.proofs.lemmas.List.Elements.{All-nil}
 use Rattle.std.proofs.lemmas.List.Sums.{sum_by-cons}
 use Rattle.std.proofs.lemmas.Slice.Eq.{bytes_eq-Decides}
+use Rattle.cache_model.specs.declared.files.Place.{Place}
 use Rattle.cache_model.specs.declared.index.IndexKey.{IndexKey}
 use Rattle.cache_model.specs.declared.index.IndexValue.{IndexValue}
 use Rattle.cache_model.specs.Hash.{hash}
@@ -17,6 +18,7 @@ use Rattle.cache_model.proofs.Members.{among-none, among-cases}
 use Rattle.file_stats.specs.declared.file_list.Found.{Found}
 use Rattle.tree_index.specs.Index.{Index, value_at}
 use Rattle.temporary_table.specs.declared.requests.Request.{Request}
+use Rattle.temporary_table.specs.declared.requests.Request.TheVariants.{Swap}
 use Rattle.temporary_table.specs.Places.{Places, Seat, placed, place_of}
 use Rattle.compactor.specs.Counting.{IsNewestBy}
 use Rattle.compactor.specs.Indexing.{IsPlaced, IsPut, IsEntryOf, IsIndexed, IsNewestEntry}
@@ -85,9 +87,10 @@ module _ (files : Image) (bits : ℕ) (index : Index) (found : Found) (same_bits
   -- With it, and where no key has a place and nothing waits, the parts stand for the records of the files.
   pub indexed_rebuilt : (places : Places) (waiting : List Request) → places.seats ≡ [] → waiting ≡ [] → IsIndexed (IsCounted files) places index waiting
   indexed_rebuilt places waiting unplaced empty = subst (λ (w : List Request). IsIndexed (IsCounted files) places index w) (sym empty) (record {
-    queued = nowhere;
+    queued = λ key. ap (λ (seat : Seat). option_map (λ (s : Place × Bool). s.0) seat) (nowhere key);
     requested = All-nil (IsPut (IsCounted files));
     apart = tt;
+    swaps = λ key from to before after split. absurd (none_split before after (Swap key from to) split);
     placed = λ key place gone at. let no : None ≡ Some (place, gone) = sym (nowhere key) ∙ at in cc;
     indexed = λ at value there. let own = is.index.newest at value there in (own.0, entry_by own.0 at value own.1);
     single = λ one other v w key there here first second. is.index.single key one other v w there (own_entry key one v there first) here (own_entry key other w here second);
@@ -96,5 +99,9 @@ module _ (files : Image) (bits : ℕ) (index : Index) (found : Found) (same_bits
         (own.0, own.1, record { there = own.2; entry = entry_by key own.0 own.1 own.3; newest = newest_by files key own.0.file own.0.at own.3.item own.3.newest });
   })
     where
+      none_split : (before after : List Request) (one : Request) → [] ≡ before ++ one ∷ after → ⊥
+      none_split [] after one split = cc
+      none_split (first ∷ before) after one split = cc
+
       nowhere : (key : List ℕ) → place_of places key ≡ None
       nowhere key = ap (λ (seats : List (List ℕ × Seat)). placed (lookup (λ other. bytes_eq other key) seats)) unplaced

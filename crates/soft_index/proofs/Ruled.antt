@@ -11,7 +11,7 @@ use Rattle.cache_model.specs.declared.faults.StoreFault.{StoreFault}
 use Rattle.cache_disk.specs.State.{HostState}
 use Rattle.store_trait.specs.Meaning.{Reading, Content, read_in, key_of, changed, StoreFacts, StoreState}
 use Rattle.store_trait.specs.Keeping.{Keeps, IsOnly, IsSettled, IsKept, IsKeptAtMarks}
-use Rattle.store_trait.specs.Calls.{Acts, Plainly, DrawsNone, DrawsOne, DrawsBy, IsAnswer, Walked, Written, SyncedStore, Stepped, known_bytes}
+use Rattle.store_trait.specs.Calls.{Acts, Plainly, DrawsNone, DrawsOne, DrawsBy, IsAnswer, Walked, Written, SyncedStore, Stepped, Figured, known_bytes}
 use Rattle.store_trait.proofs.Alike.{alike_weaker}
 use Rattle.store_trait.proofs.Runs.{old_weaker, new_weaker, old_whole_weaker, new_whole_weaker}
 use Rattle.std.specs.Fn.{Shared}
@@ -66,6 +66,7 @@ module _ (f g : StoreFacts) (u v : Type 0) (forgets : List ℕ → Type 0)
       moves = plain.same.moves;
       empties = plain.same.empties;
       room = plain.same.room;
+      counts = plain.same.counts;
     };
     usable = λ unspoilt. usable (plain.usable unspoilt);
     unspoilt = plain.unspoilt;
@@ -148,6 +149,22 @@ module _ (f g : StoreFacts) (u v : Type 0) (forgets : List ℕ → Type 0)
       kept (Err e) is = tt
 
       marked : (given : Result Turned StoreFault) → OnOk given (IsKeptAtMarks f b.turn old new) → OnOk given (IsKeptAtMarks before b.turn old new)
+      marked (Ok x) is = λ key r m may. alike_weaker (f.forgets key) (forgets key) m (read_in new.content key) (read_in old.content key) (few key) (is key r m may)
+      marked (Err e) is = tt
+
+  pub figured_ruled : (old new : StoreState) (a b : HostState) (moment : ℕ) (result : Result (ℕ × ℕ × ℕ) StoreFault) → Figured f g old new a b moment result → Figured before after old new a b moment result
+  figured_ruled old new a b moment result figured = record {
+    acts = acts_ruled old new a b moment old.content result figured.acts;
+    content = kept result figured.content;
+    marks = marked result figured.marks;
+    parts = figured.parts;
+  }
+    where
+      kept : (given : Result (ℕ × ℕ × ℕ) StoreFault) → OnOk given (IsKept f moment old.content new.content) → OnOk given (IsKept before moment old.content new.content)
+      kept (Ok x) is = λ key. alike_weaker (f.forgets key) (forgets key) moment (read_in new.content key) (read_in old.content key) (few key) (is key)
+      kept (Err e) is = tt
+
+      marked : (given : Result (ℕ × ℕ × ℕ) StoreFault) → OnOk given (IsKeptAtMarks f b.turn old new) → OnOk given (IsKeptAtMarks before b.turn old new)
       marked (Ok x) is = λ key r m may. alike_weaker (f.forgets key) (forgets key) m (read_in new.content key) (read_in old.content key) (few key) (is key r m may)
       marked (Err e) is = tt
 

@@ -26,6 +26,7 @@ use Rattle.soft_index.proofs.There.{there_by}
 use Rattle.store_trait.specs.Meaning.{read_in}
 use Rattle.store_trait.specs.Keeping.{SameContent}
 use Rattle.soft_index.specs.declared.log_store.LogStore.{LogStore}
+use Rattle.soft_index.specs.Counted.{AreCounted}
 use Rattle.soft_index.specs.Store.{item_by, closed_frames, HasReading, Holds, HoldsLog, SameOthers, IsNamed, LogStands, content_of, main_files, next_of, number, waiting, writer}
 use Rattle.soft_index.specs.Laws.{cases_file, reading-same, holds-there}
 use Rattle.soft_index.proofs.Counting.{counted-within, counted-there, undamaged-counted}
@@ -104,10 +105,11 @@ module _ (S T : LogStore) (a b : HostState) (frames : List Frame) (records : Lis
   stands_after : (fs : List Frame) (rs : List Item)
       → store_of (files_of T.parts.log) ≡ 0 → HoldsLog (main_files T) b fs rs → IsNamed 0 (writer T) (number T)
       → AreIndexed (Holds (number T) (placed_of fs rs) b.files) T.parts
+      → AreCounted (record { number = number T; items = placed_of fs rs; files = b.files }) T.parts
       → ((n at : ℕ) (item : Item) (key : List ℕ) → Holds (number S) (placed_of fs rs) a.files n at item → key_of item ≡ Some key → sequence_of item < next_of T)
       → ((n at m : ℕ) → Holds (number S) (placed_of fs rs) a.files n at (end m) → m ≤ T.latest)
       → LogStands T b fs rs
-  stands_after fs rs main log named indexed above mark = record {
+  stands_after fs rs main log named indexed counted above mark = record {
     main = main;
     log = log;
     named = named;
@@ -115,10 +117,11 @@ module _ (S T : LogStore) (a b : HostState) (frames : List Frame) (records : Lis
     sound = λ n bytes other there. let apart = λ (is : n ≡ number S). other (is ∙ sym file) in stands.sound n bytes apart (sym (others_after n apart) ∙ there);
     indexed = indexed;
     content = content_by T b fs rs log named indexed;
-    above = λ n at item key counted.
-        above n at item key (holds-there (number S) (placed_of fs rs) b.files a.files others_before n at item (subst (λ (f : ℕ). Holds f (placed_of fs rs) b.files n at item) file counted));
-    mark = λ n at m counted.
-        mark n at m (holds-there (number S) (placed_of fs rs) b.files a.files others_before n at (end m) (subst (λ (f : ℕ). Holds f (placed_of fs rs) b.files n at (end m)) file counted));
+    counted = counted;
+    above = λ n at item key counts.
+        above n at item key (holds-there (number S) (placed_of fs rs) b.files a.files others_before n at item (subst (λ (f : ℕ). Holds f (placed_of fs rs) b.files n at item) file counts));
+    mark = λ n at m counts.
+        mark n at m (holds-there (number S) (placed_of fs rs) b.files a.files others_before n at (end m) (subst (λ (f : ℕ). Holds f (placed_of fs rs) b.files n at (end m)) file counts));
   }
 
   -- what counts goes along with the files
@@ -135,18 +138,20 @@ module _ (S T : LogStore) (a b : HostState) (frames : List Frame) (records : Lis
   }
 
   -- the same frames and records
-  pub stands_same : store_of (files_of T.parts.log) ≡ 0 → HoldsLog (main_files T) b frames records → IsNamed 0 (writer T) (number T) → AreIndexed (Holds (number S) (placed_of frames records) a.files) T.parts → next_of T ≡ next_of S → S.latest ≤ T.latest → LogStands T b frames records
-  stands_same main log named indexed next late =
-      stands_after frames records main log named (indexed_by T same_records indexed)
+  pub stands_same : store_of (files_of T.parts.log) ≡ 0 → HoldsLog (main_files T) b frames records → IsNamed 0 (writer T) (number T) → AreIndexed (Holds (number S) (placed_of frames records) a.files) T.parts
+      → AreCounted (record { number = number T; items = placed_of frames records; files = b.files }) T.parts → next_of T ≡ next_of S → S.latest ≤ T.latest → LogStands T b frames records
+  stands_same main log named indexed counted next late =
+      stands_after frames records main log named (indexed_by T same_records indexed) counted
       (λ n at item key counted of_key. omega (arith, stands.above n at item key counted of_key, next))
       (λ n at m counted. omega (arith, stands.mark n at m counted, late))
 
   -- one record more
   pub stands_appended : (change : Change) → store_of (files_of T.parts.log) ≡ 0 → HoldsLog (main_files T) b frames (records ++ item_by (next_of S) change ∷ []) → IsNamed 0 (writer T) (number T)
-      → AreIndexed (Holds (number T) (placed_of frames (records ++ item_by (next_of S) change ∷ [])) b.files) T.parts → next_of T ≡ next_of S + 1 → S.latest ≤ T.latest
+      → AreIndexed (Holds (number T) (placed_of frames (records ++ item_by (next_of S) change ∷ [])) b.files) T.parts
+      → AreCounted (record { number = number T; items = placed_of frames (records ++ item_by (next_of S) change ∷ []); files = b.files }) T.parts → next_of T ≡ next_of S + 1 → S.latest ≤ T.latest
       → LogStands T b frames (records ++ item_by (next_of S) change ∷ [])
-  stands_appended change main log named indexed next late =
-      stands_after frames (records ++ item_by (next_of S) change ∷ []) main log named indexed
+  stands_appended change main log named indexed counted next late =
+      stands_after frames (records ++ item_by (next_of S) change ∷ []) main log named indexed counted
       (λ n at item key counted of_key. omega (arith, above_more (number S) (next_of S) frames records a.files change stands.above n at item key counted of_key, next))
       (λ n at m counted. omega (arith, mark_more (number S) (next_of S) frames records a.files change S.latest stands.mark n at m counted, late))
 
@@ -167,10 +172,11 @@ module _ (S T : LogStore) (a b : HostState) (frames : List Frame) (records : Lis
     }
 
     pub stands_sealed : store_of (files_of T.parts.log) ≡ 0 → HoldsLog (main_files T) b (closed_frames (waiting S) frames records moment) [] → IsNamed 0 (writer T) (number T)
-        → AreIndexed (Holds (number S) (placed_of frames records) a.files) T.parts → next_of T ≡ next_of S → S.latest ≤ moment → T.latest ≡ moment
+        → AreIndexed (Holds (number S) (placed_of frames records) a.files) T.parts
+        → AreCounted (record { number = number T; items = placed_of (closed_frames (waiting S) frames records moment) []; files = b.files }) T.parts → next_of T ≡ next_of S → S.latest ≤ moment → T.latest ≡ moment
         → LogStands T b (closed_frames (waiting S) frames records moment) []
-    stands_sealed main log named indexed next late latest =
-        stands_after (closed_frames (waiting S) frames records moment) [] main log named (indexed_by T sealed_records indexed)
+    stands_sealed main log named indexed counted next late latest =
+        stands_after (closed_frames (waiting S) frames records moment) [] main log named (indexed_by T sealed_records indexed) counted
         (λ n at item key counted of_key. ⊎_elim (λ was. omega (arith, stands.above n at item key was of_key, next)) (λ is. let no : None ≡ Some key = ap key_of (sym is) ∙ of_key in cc) (sealed_only_here n at item counted))
         (λ n at m counted. ⊎_elim (λ was. omega (arith, stands.mark n at m was, late, latest)) (λ is. let one : m ≡ moment = cc in omega (arith, one, latest)) (sealed_only_here n at (end m) counted))
 
@@ -266,9 +272,9 @@ module _ (S T : LogStore) (a b : HostState) (frames : List Frame) (records : Lis
 
   -- the next one isn't made yet
   pub stands_rotated : store_of (files_of T.parts.log) ≡ 0 → HoldsLog (main_files T) b [] [] → IsNamed 0 (writer T) (number T)
-      → AreIndexed (Holds (number S) (placed_of frames records) a.files) T.parts → next_of T ≡ next_of S → S.latest ≤ moment → T.latest ≡ moment
+      → AreIndexed (Holds (number S) (placed_of frames records) a.files) T.parts → AreCounted (record { number = number T; items = placed_of [] []; files = b.files }) T.parts → next_of T ≡ next_of S → S.latest ≤ moment → T.latest ≡ moment
       → LogStands T b [] []
-  stands_rotated main log named indexed next late latest = record {
+  stands_rotated main log named indexed counted next late latest = record {
     main = main;
     log = log;
     named = named;
@@ -276,15 +282,17 @@ module _ (S T : LogStore) (a b : HostState) (frames : List Frame) (records : Lis
     sound = sound;
     indexed = indexed_by T rotated_records indexed;
     content = content_by T b [] [] log named (indexed_by T rotated_records indexed);
-    above = λ n at item key counted of_key. omega (arith, before_above n at item key counted of_key, next);
-    mark = λ n at m counted. omega (arith, before_mark late n at m counted, latest);
+    counted = counted;
+    above = λ n at item key counts of_key. omega (arith, before_above n at item key counts of_key, next);
+    mark = λ n at m counts. omega (arith, before_mark late n at m counts, latest);
   }
 
   -- the next one holds the record of a change
   pub stands_behind : (change : Change) → store_of (files_of T.parts.log) ≡ 0 → HoldsLog (main_files T) b [] (item_by (next_of S) change ∷ []) → IsNamed 0 (writer T) (number T)
-      → AreIndexed (Holds (number T) (placed_of [] (item_by (next_of S) change ∷ [])) b.files) T.parts → next_of T ≡ next_of S + 1 → S.latest ≤ moment → T.latest ≡ moment
+      → AreIndexed (Holds (number T) (placed_of [] (item_by (next_of S) change ∷ [])) b.files) T.parts
+      → AreCounted (record { number = number T; items = placed_of [] (item_by (next_of S) change ∷ []); files = b.files }) T.parts → next_of T ≡ next_of S + 1 → S.latest ≤ moment → T.latest ≡ moment
       → LogStands T b [] (item_by (next_of S) change ∷ [])
-  stands_behind change main log named indexed next late latest = record {
+  stands_behind change main log named indexed counted next late latest = record {
     main = main;
     log = log;
     named = named;
@@ -292,6 +300,7 @@ module _ (S T : LogStore) (a b : HostState) (frames : List Frame) (records : Lis
     sound = sound;
     indexed = indexed;
     content = content_by T b [] (item_by (next_of S) change ∷ []) log named indexed;
-    above = λ n at item key counted of_key. omega (arith, above_more (number T) (next_of S) [] [] b.files change before_above n at item key counted of_key, next);
-    mark = λ n at m counted. omega (arith, mark_more (number T) (next_of S) [] [] b.files change moment (before_mark late) n at m counted, latest);
+    counted = counted;
+    above = λ n at item key counts of_key. omega (arith, above_more (number T) (next_of S) [] [] b.files change before_above n at item key counts of_key, next);
+    mark = λ n at m counts. omega (arith, mark_more (number T) (next_of S) [] [] b.files change moment (before_mark late) n at m counts, latest);
   }

@@ -57,9 +57,9 @@ bytes_there : (files : Image) (n : ℕ) (bytes : List ℕ) → file_in files (lo
 bytes_there files n bytes is = ap (λ (found : Option (List ℕ)). unwrap_or found []) is
 
 -- An item stands whole at its place, and is within its limits.
-record StandsWhole (files : Image) (n at : ℕ) (item : Item) : Type 0 where
-  is_item : IsItem item
-  there : front (drop at (bytes_in files (log_name n))) ≡ whole item (length (spelling item))
+pub record StandsWhole (files : Image) (n at : ℕ) (item : Item) : Type 0 where
+  pub is_item : IsItem item
+  pub there : front (drop at (bytes_in files (log_name n))) ≡ whole item (length (spelling item))
 
 in_current : (log : Option Appender) (file : ℕ) (a : HostState) (frames : List Frame) (records : List Item) (at : ℕ) (item : Item) → IsNamed 0 log file → IsFileOf 0 log file a frames records
     → Contains (placed_of frames records) (at, item) → StandsWhole a.files file at item
@@ -79,7 +79,7 @@ in_other files n at item counted = record {
   there = ap (λ (l : List ℕ). front (drop at l)) (bytes_there files n counted.bytes counted.there) ∙ counted_front counted.bytes at item counted.counted;
 }
 
-stands_whole : (T : LogStore) (b : HostState) (frames : List Frame) (records : List Item) → HoldsLog (main_files T) b frames records → IsNamed 0 (writer T) (number T)
+pub stands_whole : (T : LogStore) (b : HostState) (frames : List Frame) (records : List Item) → HoldsLog (main_files T) b frames records → IsNamed 0 (writer T) (number T)
     → (n at : ℕ) (item : Item) → Holds (number T) (placed_of frames records) b.files n at item → StandsWhole b.files n at item
 stands_whole T b frames records log named n at item (inl here) =
     subst (λ (k : ℕ). StandsWhole b.files k at item) (sym here.0) (in_current (writer T) (number T) b frames records at item named log.1.current here.1)

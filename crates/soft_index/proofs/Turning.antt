@@ -30,11 +30,14 @@ use Rattle.store_trait.specs.Calls.{Acts, Plainly, Stepped}
 use Rattle.store_trait.proofs.Runs.{keeps_then, leaves_then, opens_then, store_trans}
 use Rattle.cache_disk.proofs.Runs.{Silent-trans}
 use Rattle.cache_model.specs.declared.files.FileName.{FileName}
+use Rattle.file_stats.specs.Figures.{Figures}
 use Rattle.soft_index.specs.declared.log_store.LogStore.{LogStore}
-use Rattle.soft_index.specs.Store.{IsNamed, LogStands, Rotates, SameOthers, closed_frames, content_of, current_of, is_spent, log_facts, log_means, main_files, next_file, number, row_of, waiting, writer}
+use Rattle.soft_index.specs.Counted.{CountsWritten}
+use Rattle.soft_index.specs.Store.{HoldsLog, IsNamed, LogStands, Rotates, SameOthers, closed_frames, content_of, current_of, is_spent, log_facts, log_means, main_files, next_file, number, row_of, waiting, writer}
 use Rattle.soft_index.proofs.Images.{IsAsBefore, IsNewImage, call_acts, leaves_others, same_beside, sealed_image, step_since}
 use Rattle.soft_index.proofs.Changes.{SameParts, parts_indexed}
 use Rattle.soft_index.proofs.Standing.{content_same, rotated_records, same_records, stands_same, stands_rotated}
+use Rattle.soft_index.proofs.Written.{counted_closed, counted_on}
 
 -- the main store's log
 
@@ -122,6 +125,11 @@ none_next : (log : Option Appender) (file : ℕ) (unsealed : Bool) → tail_by l
 none_next None file unsealed is = refl
 none_next (Some log) file unsealed is = cc
 
+-- where there is no current file no room is wanted
+no_writer : (log : Option Appender) (file : ℕ) (unsealed : Bool) (figures : Figures) → tail_by log file unsealed ≡ None → is_some log ≡ true → 1 ≤ figures.spare
+no_writer None file unsealed figures is some = let no : false ≡ true = some in cc
+no_writer (Some log) file unsealed figures is some = cc
+
 pub closed_last : (store : ℕ) (b : HostState) (files : List Closed) (one : Closed) → AreClosedIn store b (files ++ one ∷ []) → IsClosedIn store b one
 closed_last store b [] one all = all.0
 closed_last store b (file ∷ files) one all = closed_last store b files one all.1
@@ -142,20 +150,27 @@ turned_rows Done moment S T same is = (
 pub turned_told : (turned : Turned) (S T : LogStore) (a b : HostState) (frames : List Frame) (records : List Item) (moment : ℕ)
     → (stands : LogStands S a frames records)
     → S.parts.spoilt ≡ false → S.latest ≤ moment → T.latest ≡ moment
-    → IsUsableLog (files_of T.parts.log) → store_of (files_of T.parts.log) ≡ 0
+    → IsUsableLog (files_of S.parts.log) → IsUsableLog (files_of T.parts.log) → store_of (files_of T.parts.log) ≡ 0
     → TakesNone (files_of S.parts.log) (files_of T.parts.log)
     → IsTurned moment turned (files_of S.parts.log) (files_of T.parts.log)
     → Seals moment (record { closed = stands.log.0; frames = frames; records = records }) (λ t. turned_held t (waiting S) (number S) moment (record { closed = stands.log.0; frames = frames; records = records })) (main_files S) (files_of T.parts.log) a b (Ok turned)
     → SameParts S T
+    → CountsWritten (tail_of (files_of S.parts.log)) (tail_of (files_of T.parts.log)) S.parts.stats T.parts.stats
     → Stepped Rotate (log_facts S) (log_facts T) (log_means S a) (log_means T b) a b moment (Ok turned)
-turned_told Idle S T a b frames records moment stands sound late latest usable main takes is told same =
+turned_told Idle S T a b frames records moment stands sound late latest ready usable main takes is told same counts =
     let held : Held = record { closed = stands.log.0; frames = frames; records = records } in
+    let log : HoldsLog (main_files T) b frames records = (stands.log.0, to_main (files_of T.parts.log) b held main told.stands) in
+    let named = named_main (files_of T.parts.log) main usable in
+    let writers : writer T ≡ writer S = ap writer_of is.1 in
     let P = CountsOneOf frames (closed_frames (waiting S) frames records moment) in
     let file : number T ≡ number S = ap number_of is.1 in
     let now : LogStands T b frames records =
     stands_same S T a b frames records P stands file told.images told.files main
-    (stands.log.0, to_main (files_of T.parts.log) b held main told.stands) (named_main (files_of T.parts.log) main usable)
-    (parts_indexed S T same (record { number = number S; items = placed_of frames records; files = a.files }) stands.indexed) takes.0 (omega (arith, late, latest))
+    log named
+    (parts_indexed S T same (record { number = number S; items = placed_of frames records; files = a.files }) stands.indexed)
+    (counted_on S T a b frames frames records records S.parts.stats stands log named refl same.1 counts file told.files
+    (λ some. ap (λ (l : Option Appender). is_some l) writers ∙ some) (λ none some. let no : false ≡ true = sym none ∙ sym (ap (λ (l : Option Appender). is_some l) writers) ∙ some in cc) (omega arith) refl)
+    takes.0 (omega (arith, late, latest))
     in
     let content : SameContent (content_of S a.files) (content_of T b.files) = content_same S T a b frames frames records records stands now (same_records S T a b frames records P stands file told.images told.files) in
     record {
@@ -166,7 +181,7 @@ turned_told Idle S T a b frames records moment stands sound late latest usable m
       marks = λ key r m may. inl (content key);
       parts = turned_rows Idle moment S T same.2 is;
     }
-turned_told Done S T a b frames records moment stands sound late latest usable main takes is told same =
+turned_told Done S T a b frames records moment stands sound late latest ready usable main takes is told same counts =
     let held : Held = record { closed = stands.log.0; frames = frames; records = records } in
     let more = closed_frames (waiting S) frames records moment in
     let P = CountsIf true frames more in
@@ -176,10 +191,14 @@ turned_told Done S T a b frames records moment stands sound late latest usable m
     let last = subst (λ (s : ℕ). IsClosedIn s b one) main (closed_last (store_of (files_of T.parts.log)) b stands.log.0 one told.stands.closed) in
     let moves = on_closed (main_files S) a frames more (stands.log.1.absent (number S + 1) (next_most (writer S) (number S))) (log_counts 0 (writer S) (number S) a frames records stands.named stands.log.1.current) b told.images in
     let beside = λ (name : FileName) (apart : is_name (file_of (main_files S)) name ≡ false) (behind : true ≡ true → is_name (file_behind (main_files S)) name ≡ false). told.files name apart in
+    let log : HoldsLog (main_files T) b [] [] = (stands.log.0 ++ one ∷ [], to_main (files_of T.parts.log) b (turned_held Done (waiting S) (number S) moment held) main told.stands) in
+    let named = named_main (files_of T.parts.log) main usable in
     let now : LogStands T b [] [] =
     stands_rotated S T a b frames records moment P stands file moves beside (told.reads some.0) last main
-    (stands.log.0 ++ one ∷ [], to_main (files_of T.parts.log) b (turned_held Done (waiting S) (number S) moment held) main told.stands) (named_main (files_of T.parts.log) main usable)
-    (parts_indexed S T same (record { number = number S; items = placed_of frames records; files = a.files }) stands.indexed) takes.0 late latest
+    log named
+    (parts_indexed S T same (record { number = number S; items = placed_of frames records; files = a.files }) stands.indexed)
+    (counted_closed S T a b frames [] records [] S.parts.stats stands log named refl same.1 counts moment file beside (told.reads some.0) last ready some.0 (no_writer (writer T) (number T) (waiting T) S.parts.stats is.1) refl)
+    takes.0 late latest
     in
     let content : SameContent (content_of S a.files) (content_of T b.files) =
     content_same S T a b frames [] records [] stands now (rotated_records S T a b frames records moment P stands file moves beside (told.reads some.0) last) in

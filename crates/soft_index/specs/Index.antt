@@ -14,6 +14,7 @@ pub use Rattle.rebuild.specs.Rebuilt.{IsRead}
 use Rattle.store_trait.specs.Meaning.{Numbers, Row, StoreFacts, StoreState, read_in}
 use Rattle.soft_index.specs.declared.log_store.LogStore.{LogStore}
 use Rattle.soft_index.specs.declared.soft_index.SoftIndex.{SoftIndex}
+use Rattle.soft_index.specs.Compacting.{CountsBy}
 use Rattle.soft_index.specs.Rule.{AnswersAlike, Allows, ruled}
 use Rattle.soft_index.specs.Store.{IsUsable, HasReading, MakesRoom, Queues, StepsBy, row_of, log_facts, log_means}
 
@@ -56,3 +57,4 @@ pub record IsStarted (files : Image) (settings : Settings) (facts : StoreFacts) 
   pub empties : (a b : List Row) → facts.empties a b → b ≡ a
   pub room : (a b : List Row) → facts.room a b → MakesRoom settings.queue a b
   pub steps : (kind : StepKind) (turned : Turned) (a b : List Row) → state.steps kind turned a b → StepsBy kind turned a b
+  pub counts : (read : Image) (figures : ℕ × ℕ × ℕ) (a b : List Row) → facts.counts read figures a b → CountsBy read figures a b

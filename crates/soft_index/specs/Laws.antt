@@ -1,20 +1,25 @@
 -- Laws of what the store stands for.
-use Rattle.std.proofs.Common.{◌≡◌, ◌⊎◌, ◌==◌, Bool, ⊎_elim, inl, inr, ℕ, ◌≤◌, true, false, List, Option, Some, None, refl, sym, ◌∙◌, ap, subst, arith}
+use Rattle.std.proofs.Common.{◌≡◌, ◌⊎◌, ◌==◌, Bool, cond, ⊎_elim, inl, inr, ℕ, ◌≤◌, true, false, List, [], get_or, length, Contains, Option, Some, None, IsSome, refl, sym, ◌∙◌, ap, subst, arith}
+use Rattle.std.specs.Prelude.{◌↔◌, unwrap_or}
 use Rattle.std.proofs.Math.Nat.{eq-or-lt_of_le}
-use Rattle.cache_model.specs.Files.{Image, file_in}
+use Rattle.cache_model.specs.Files.{Image, bytes_in, file_in}
 use Rattle.cache_model.specs.Items.{Item, end}
-use Rattle.cache_model.specs.DataFiles.{Frame, Found, IsUndamaged}
+use Rattle.cache_model.specs.DataFiles.{Frame, Found, IsUndamaged, counted_items}
 use Rattle.cache_model.specs.Images.{log_name, IsCounted, IsMark, key_of, IsSound}
 use Rattle.cache_disk.specs.State.{HostState}
 use Rattle.cache_disk.specs.Calls.{AllLeft}
 use Rattle.cache_disk.proofs.Runs.{left_still}
 use Rattle.data_file.specs.declared.appender.Appender.{Appender}
 use Rattle.data_file.proofs.Frame.{placed_of, counted_now}
+use Rattle.file_stats.specs.Figures.{numbers_of}
+use Rattle.compactor.specs.declared.parts.Parts.{Parts}
+use Rattle.compactor.specs.Figuring.{StandApart, item_bytes, items_of, live_in}
 use Rattle.compactor.proofs.Rows.{rows_same}
 use Rattle.compactor.proofs.RowsSame.{indexed_same}
 use Rattle.store_trait.specs.Meaning.{Content, Reading, read_in}
 use Rattle.store_trait.specs.Keeping.{HoldsNow, Carries, Leaves, SameWhere}
 use Rattle.soft_index.specs.declared.log_store.LogStore.{LogStore}
+use Rattle.soft_index.specs.Counted.{AreCounted}
 use Rattle.soft_index.specs.Store.{HasReading, Holds, SameOthers, IsNamed, IsFileOf, LogStands, content_of, main_files, number, writer, owns_file, log_facts, log_means}
 use Rattle.append_log.proofs.Holding.{holds_beside}
 use Rattle.std.proofs.lemmas.Bool.Decides.{nat_tests}
@@ -50,6 +55,32 @@ reading-same p q key reading kept only (inr some) =
       },
       some.4,
     )
+
+-- the statistics are those of files that read alike
+pub counted_files : (file : ℕ) (items : List (ℕ × Item)) (a b : Image) (parts : Parts) → ((n : ℕ) → file_in b (log_name n) ≡ file_in a (log_name n))
+    → AreCounted (record { number = file; items = items; files = a }) parts → AreCounted (record { number = file; items = items; files = b }) parts
+counted_files file items a b parts same counted = record {
+  ascend = counted.ascend;
+  each = λ n. subst (λ (f : Option (List ℕ)). Contains (numbers_of parts.stats.rows) n ↔ IsSome f) (sym (same n)) (counted.each n);
+  sizes = λ k d within. counted.sizes k d within ∙ ap length (sym (bytes (get_or parts.stats.rows k d).number));
+  live = record {
+    rows = λ k d within.
+        let row = get_or parts.stats.rows k d in
+        let was = counted.live.rows k d within in
+        record {
+          live = was.live ∙ ap (λ (l : List (ℕ × Item)). live_in parts.tree row.number l) (sym (held row.number));
+          fits = subst (λ (l : List (ℕ × Item)). item_bytes l ≤ row.size) (sym (held row.number)) was.fits;
+        };
+    apart = λ n. subst StandApart (sym (held n)) (counted.live.apart n);
+    listed = λ n at item key counts of_key. counted.live.listed n at item key (holds-there file items b a (λ m other. sym (same m)) n at item counts) of_key;
+  };
+}
+  where
+    bytes : (n : ℕ) → bytes_in b (log_name n) ≡ bytes_in a (log_name n)
+    bytes n = ap (λ (f : Option (List ℕ)). unwrap_or f []) (same n)
+
+    held : (n : ℕ) → items_of (record { number = file; items = items; files = b }) n ≡ items_of (record { number = file; items = items; files = a }) n
+    held n = ap (λ (l : List ℕ). cond (n == file) items (counted_items l)) (bytes n)
 
 -- each image is sound
 pub sound_of : (S : LogStore) (a : HostState) (frames : List Frame) (records : List Item) → LogStands S a frames records → AllLeft a IsSound
@@ -114,6 +145,7 @@ stands_there S a b frames records leaves stands =
           (λ n at item of_key. holds-there (number S) items a.files b.files same n at item)
           (λ n at item of_key. holds-there (number S) items b.files a.files back n at item)
           (subst (λ (c : Content). HasReading (Holds (number S) items a.files) key (read_in c key)) (sym (same_content S a b leaves)) (stands.content key));
+      counted = counted_files (number S) items a.files b.files S.parts same_log stands.counted;
       above = λ n at item key counted. stands.above n at item key (holds-there (number S) items b.files a.files back n at item counted);
       mark = λ n at m counted. stands.mark n at m (holds-there (number S) items b.files a.files back n at (end m) counted);
     }

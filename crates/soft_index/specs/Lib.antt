@@ -4,3 +4,5 @@ pub mod Rule
 pub mod Index
 pub mod Walking
 pub mod Opening
+pub mod Compacting
+pub mod Counted

@@ -35,6 +35,8 @@ pub use Rattle.rebuild.specs.Listing.{IsFirstDamageOf}
 use Rattle.store_trait.specs.Meaning.{Reading, Content, read_in, Row, StoreFacts, StoreState}
 use Rattle.store_trait.specs.Keeping.{SameContent}
 use Rattle.soft_index.specs.declared.log_store.LogStore.{LogStore}
+use Rattle.soft_index.specs.Compacting.{CountsBy, row_with}
+use Rattle.soft_index.specs.Counted.{AreCounted}
 
 -- the content of the store, as its parts read these files
 abbrev pub content_of : LogStore → Image → Content
@@ -75,7 +77,7 @@ current_of (Some log) number = Some number
 
 -- the parts of the store: how many requests wait for the index, and the current file
 abbrev pub row_of : ℕ → Option ℕ → List Row
-row_of queued current = record { queued = queued; pending = []; current = current; run = None } ∷ []
+row_of queued current = row_with queued current None
 
 -- How a change moves the parts, where the queue has so much room: its file is the current one, and one request more
 -- waits; where the queue is full one is taken before.
@@ -140,7 +142,7 @@ abbrev pub HoldsLog : LogFiles → HostState → List Frame → List Item → Ty
 HoldsLog files state frames records = (closed : List Closed) × Stands files state (record { closed = closed; frames = frames; records = records })
 
 -- The log holds frames and records. Every image has each other file as it reads. The parts stand for the newest records,
--- with those that aren't sealed yet, and the content is theirs.
+-- with those that aren't sealed yet, and the content is theirs. The statistics are those of the data files.
 pub record LogStands (store : LogStore) (state : HostState) (frames : List Frame) (records : List Item) : Type 0 where
   pub main : append.store_of (append.files_of store.parts.log) ≡ 0
   pub log : HoldsLog (main_files store) state frames records
@@ -149,6 +151,7 @@ pub record LogStands (store : LogStore) (state : HostState) (frames : List Frame
   pub sound : (n : ℕ) (bytes : List ℕ) → (n ≡ number store → ⊥) → file_in state.files (log_name n) ≡ Some bytes → IsUndamaged bytes
   pub indexed : AreIndexed (Holds (number store) (placed_of frames records) state.files) store.parts
   pub content : (key : List ℕ) → HasReading (Holds (number store) (placed_of frames records) state.files) key (read_in (content_of store state.files) key)
+  pub counted : AreCounted (record { number = number store; items = placed_of frames records; files = state.files }) store.parts
   pub above : (n a : ℕ) (item : Item) (key : List ℕ) → Holds (number store) (placed_of frames records) state.files n a item → key_of item ≡ Some key → sequence_of item < next_of store
   pub mark : (n a m : ℕ) → Holds (number store) (placed_of frames records) state.files n a (end m) → m ≤ store.latest
 
@@ -201,6 +204,7 @@ log_facts store = record {
   moves = λ change a b. Queues store.parts.requests.limit a b;
   empties = λ a b. b ≡ a;
   room = λ a b. MakesRoom store.parts.requests.limit a b;
+  counts = CountsBy;
 }
 
 -- which number is at its end

@@ -4,6 +4,7 @@
 mod log_store;
 mod opening;
 mod reading;
+mod sizing;
 mod soft_index;
 mod store;
 mod walking;

@@ -16,7 +16,7 @@ use append_log::Log;
 use cache_disk::Host;
 use cache_model::{Settings, StoreFault};
 use compactor::Parts;
-use file_stats::Found;
+use file_stats::{Found, Stats};
 use rebuild::rebuild;
 use std::alloc::Global;
 use temporary_table::{Requests, Table};
@@ -37,6 +37,9 @@ fn store_of(
     let Ok(requests) = Requests::new(alloc, settings.queue) else {
         return Err(StoreFault::Memory);
     };
+    let Ok(stats) = Stats::of(alloc, found.files.rows()) else {
+        return Err(StoreFault::Memory);
+    };
     let log = Log::start(
         alloc,
         0,
@@ -50,6 +53,7 @@ fn store_of(
             tree,
             table: Table::ordered_by(alloc, settings.hash_bits),
             requests,
+            stats,
             spoilt: false,
         },
         latest: found.mark,

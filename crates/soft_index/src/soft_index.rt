@@ -20,7 +20,7 @@ use crate::log_store::LogStore;
 use cache_disk::Host;
 use cache_model::{Answer, Change, Key, Settings, StepKind, StoreFault, Turned};
 use std::alloc::Global;
-use store_trait::{Keyed, ReadStore, Store};
+use store_trait::{FileStore, Keyed, ReadStore, Store};
 
 /// The store over the data files of a directory, with a rule that says which keys may be forgotten once they aren't
 /// visible any more.
@@ -149,5 +149,12 @@ impl<F: Fn(&Key) -> bool, H: Host> Store<H> for SoftIndex<F> {
 
     fn step(&mut self, host: &mut H, moment: u64, kind: StepKind) -> Result<Turned, StoreFault> {
         self.log.step(host, moment, kind)
+    }
+}
+
+impl<F: Fn(&Key) -> bool, H: Host> FileStore<H> for SoftIndex<F> {
+    /// The index is told first of all that waits for it.
+    fn figures(&mut self, host: &mut H, moment: u64) -> Result<(u64, u64, u64), StoreFault> {
+        self.log.figures(host, moment)
     }
 }

@@ -19,11 +19,12 @@ ghost use Rattle.soft_index.specs.Laws.{log_holds, log_carries};
 
 use crate::log_store::LogStore;
 use crate::reading::answer_by;
+use crate::sizing::count_written;
 use crate::walking::next_shown;
 use crate::writing::put;
 use cache_disk::Host;
 use cache_model::{Answer, Change, Key, StepKind, StoreFault, Turned};
-use store_trait::{Keyed, ReadStore, Store};
+use store_trait::{FileStore, Keyed, ReadStore, Store};
 
 impl Keyed for LogStore {
     ghost facts = { log_facts };
@@ -110,6 +111,17 @@ impl<H: Host> Store<H> for LogStore {
         }
         self.latest = moment;
         Ok(Turned::Idle)
+    }
+}
+
+impl<H: Host> FileStore<H> for LogStore {
+    fn figures(&mut self, host: &mut H, moment: u64) -> Result<(u64, u64, u64), StoreFault> {
+        self.latest = moment;
+        if let Err(fault) = self.parts.empty_queue(host) {
+            self.parts.spoilt = true;
+            return Err(fault);
+        }
+        Ok(self.parts.stats.totals())
     }
 }
 
@@ -214,10 +226,12 @@ fn seal<H: Host>(store: &mut LogStore, host: &mut H, moment: u64) -> Result<(), 
     ensures cause { HasStoreCause (H.state host.old) (H.state host.new) result }
 {
     store.latest = moment;
+    let before = store.parts.log.tail();
     if let Err(fault) = store.parts.log.seal(host, moment) {
         store.parts.spoilt = store.parts.log.is_spoilt();
         return Err(fault);
     }
+    count_written(&mut store.parts.stats, before, store.parts.log.tail());
     Ok(())
 }
 
@@ -233,8 +247,12 @@ fn rotate<H: Host>(store: &mut LogStore, host: &mut H, moment: u64) -> Result<Tu
     ensures cause { HasStoreCause (H.state host.old) (H.state host.new) result }
 {
     store.latest = moment;
+    let before = store.parts.log.tail();
     match store.parts.log.rotate(host, moment) {
-        Ok(turned) => Ok(turned),
+        Ok(turned) => {
+            count_written(&mut store.parts.stats, before, store.parts.log.tail());
+            Ok(turned)
+        }
         Err(fault) => {
             store.parts.spoilt = store.parts.log.is_spoilt();
             Err(fault)

@@ -9,9 +9,11 @@ ghost use Rattle.soft_index.specs.Index.{IsRule, index_facts, index_means};
 ghost use Rattle.soft_index.specs.Store.{AreInRange};
 
 mod failing;
+mod recount;
 
 use crate::SoftIndex;
 use crate::tests::failing::failures_spoil;
+use crate::tests::recount::counts_hold;
 use cache_disk::Host;
 use cache_model::{
     Activation, Answer, Change, Entry, Key, Mode, Prefix, Settings, StepKind, StoreFault, Turned,
@@ -411,7 +413,27 @@ fn index_often<F: Fn(&Key) -> bool + Drop>(
     Ok(())
 }
 
-/// One change, which both stores then have, and index steps, which change nothing of what is read.
+/// Counts the files where index steps are taken: else the queue is to fill up.
+fn count_now<F: Fn(&Key) -> bool + Drop>(
+    rt: &impl Abort,
+    alloc: Global,
+    store: &mut SoftIndex<F>,
+    host: &mut MemoryHost,
+    moment: u64,
+    steps: usize,
+) -> Result<(), Fail>
+    requires ready { IsReady (index_facts F.Fn store.old) moment }
+    requires stands { (index_means store.old (memory_state host.old)).stands }
+    ensures ready { OnOk result (IsReady (index_facts F.Fn store.new) moment) }
+    ensures stands { OnOk result ((index_means store.new (memory_state host.new)).stands) }
+{
+    if steps == 0 {
+        return Ok(());
+    }
+    counts_hold(rt, alloc, store, host, moment)
+}
+
+/// One change, which both stores then have, and index steps and a count of the files, which change nothing of what is read.
 fn row_holds<F: Fn(&Key) -> bool + Drop>(
     rt: &impl Abort,
     alloc: Global,
@@ -435,6 +457,7 @@ fn row_holds<F: Fn(&Key) -> bool + Drop>(
     write(&mut heap.store, &mut heap.host, &change, moment)?;
     reads_alike(rt, alloc, store, heap, host, keys, moment)?;
     index_often(rt, store, host, moment, steps)?;
+    count_now(rt, alloc, store, host, moment, steps)?;
     reads_alike(rt, alloc, store, heap, host, keys, moment)
 }
 
@@ -466,6 +489,8 @@ fn rests<H: Host, S: Store<H>>(
 ) -> Result<(Turned, Turned), StoreFault>
     requires ready { IsReady (S.facts store.old) moment }
     requires stands { IsTrue H.tells → (S.means store.old (H.state host.old)).stands }
+    ensures ready { OnOk result (IsReady (S.facts store.new) moment) }
+    ensures stands { OnOk result (IsTrue H.tells → (S.means store.new (H.state host.new)).stands) }
 {
     let synced = store.sync(host, moment);
     if let Err(fault) = synced {
@@ -490,6 +515,8 @@ fn ends<F: Fn(&Key) -> bool + Drop>(
 ) -> Result<(), Fail>
     requires ready { IsReady (index_facts F.Fn store.old) moment }
     requires stands { (index_means store.old (memory_state host.old)).stands }
+    ensures ready { OnOk result (IsReady (index_facts F.Fn store.new) moment) }
+    ensures stands { OnOk result ((index_means store.new (memory_state host.new)).stands) }
 {
     index_often(rt, store, host, moment, 5)?;
     assert!(rt; store.log.parts.requests.is_empty());
@@ -515,6 +542,7 @@ fn session_holds(
     let [one, two, three, four] = &session.1;
     let settings = settings_of(rt, alloc, way)?;
     let mut store = open(rt, alloc, host, &settings, |_| false, moment)?;
+    counts_hold(rt, alloc, &mut store, host, moment)?;
     reads_alike(rt, alloc, &mut store, heap, host, keys, moment)?;
     row_holds(
         rt, alloc, &mut store, heap, host, keys, one, moment, way.steps,
@@ -528,7 +556,9 @@ fn session_holds(
     row_holds(
         rt, alloc, &mut store, heap, host, keys, four, moment, way.steps,
     )?;
-    ends(rt, &mut store, host, moment)
+    counts_hold(rt, alloc, &mut store, host, moment)?;
+    ends(rt, &mut store, host, moment)?;
+    counts_hold(rt, alloc, &mut store, host, moment)
 }
 
 /// A host in memory without a file.

@@ -13,6 +13,7 @@ ghost use Rattle.record_format.specs.Changing.{item_by};
 ghost use Rattle.soft_index.specs.Store.{IsPutIn, IsSpentBy, LogStands, Queues, closes, content_of, log_facts, log_means, number, spent_by};
 
 use crate::log_store::LogStore;
+use crate::sizing::count_written;
 use cache_disk::Host;
 use cache_model::{Change, Key, StoreFault};
 
@@ -68,11 +69,16 @@ pub(crate) fn put<H: Host>(
     let Ok(seated) = key_of(change).copy() else {
         return Err(StoreFault::Memory);
     };
+    let Ok(()) = store.parts.stats.reserve() else {
+        return Err(StoreFault::Memory);
+    };
     if let Err(fault) = store.parts.seat(seated) {
         return Err(fault);
     }
+    let before = store.parts.log.tail();
     match store.parts.log.put_change(host, change, moment) {
         Ok(place) => {
+            count_written(&mut store.parts.stats, before, store.parts.log.tail());
             store.parts.note(key, place, is_gone(change));
             Ok(())
         }

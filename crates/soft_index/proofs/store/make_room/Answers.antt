@@ -12,7 +12,7 @@ returns-then-not-is_full-clause-kept g c told unspoilt frames records stands =
     let old = c.args.store.now in
     let new : LogStore = record old { latest = c.args.moment } in
     let a = g.H.Host.state c.args.host.now in
-    still_stands old new a a frames records stands (as_was old new a.files a.files refl (refl, refl, refl) (λ n. refl)) c.requires.ready.late (Stands-same a)
+    still_stands old new a a frames records stands (as_was old new a.files a.files refl (refl, refl, refl) refl (λ n. refl)) c.requires.ready.late (Stands-same a)
 
 pub returns-then-not-is_full-clause-told : goal.returns-then-not-is_full-clause-told
 returns-then-not-is_full-clause-told g c told wanted =
@@ -20,7 +20,7 @@ returns-then-not-is_full-clause-told g c told wanted =
     let new : LogStore = record old { latest = c.args.moment } in
     let a = g.H.Host.state c.args.host.now in
     let stands = c.requires.stands told in
-    still_acts {R = Unit {0}} old new a a c.args.moment wanted stands.0 stands.1 (Ok tt) stands.2 c.requires.ready.unspoilt c.requires.ready.late refl (as_was old new a.files a.files refl (refl, refl, refl) (λ n. refl)) (Stands-same a)
+    still_acts {R = Unit {0}} old new a a c.args.moment wanted stands.0 stands.1 (Ok tt) stands.2 c.requires.ready.unspoilt c.requires.ready.late refl (as_was old new a.files a.files refl (refl, refl, refl) refl (λ n. refl)) (Stands-same a)
     (λ d err. cc) (λ s err. cc) (λ err. cc)
 
 full : (limit waiting : ℕ) → waiting ≤ limit → limit ≤ waiting → waiting ≡ limit

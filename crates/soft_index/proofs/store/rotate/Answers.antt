@@ -1,8 +1,10 @@
-use Rattle.std.proofs.Common.{◌≡◌, ◌∙◌, Err, Ok, refl, sym, false}
+use Rattle.std.proofs.Common.{◌≡◌, ◌∙◌, Err, Ok, refl, subst, sym, false}
+use Rattle.append_log.specs.Current.{files_of, tail_of}
 use Rattle.append_log.specs.Standing.{Held, turned_held}
 use Rattle.cache_model.specs.declared.replies.Turned.{Turned}
 use Rattle.cache_model.specs.Images.{log_name}
 use Rattle.soft_index.specs.declared.log_store.LogStore.{LogStore}
+use Rattle.soft_index.specs.Counted.{CountsWritten}
 use Rattle.soft_index.proofs.Changes.{as_was, draws_none, same_rows, still_stands}
 use Rattle.soft_index.proofs.Turning.{from_main, sealing_acts, seals_main, turned_rows, turned_told}
 use Rattle.soft_index.proofs.store.rotate.Goals as goal
@@ -23,7 +25,7 @@ returns-in-Err-clause-draws g c =
 pub returns-in-Ok-clause-draws : goal.returns-in-Ok-clause-draws
 returns-in-Ok-clause-draws g c =
     let old = c.args.store.now in
-    let new : LogStore = record old { parts = record old.parts { log = c.rotate.new.self }; latest = c.args.moment } in
+    let new : LogStore = record old { parts = record old.parts { log = c.rotate.new.self; stats = c.count_written.new.stats }; latest = c.args.moment } in
     let takes = c.rotate.ensures.takes in
     draws_none old new takes.0 takes.1 takes.2
 
@@ -40,7 +42,7 @@ returns-in-Err-clause-told g c told =
     let held : Held = record { closed = stands.2.log.0; frames = stands.0; records = stands.1 } in
     let after = λ (t : Turned). turned_held t F.unsealed F.file c.args.moment held in
     let seals = seals_main {R = Turned} F G a b c.args.moment held after (Err c.in-Err.fault) main (c.in-Err.ensures.told told held (from_main F a held main stands.2.log.1)) in
-    let kept = λ (unspoilt : c.is_spoilt-store.result ≡ false). as_was old new a.files b.files (c.in-Err.ensures.goes.refused (sym c.is_spoilt-store.ensures ∙ unspoilt)).1 (refl, refl, refl) (λ n. (seals.refused (sym c.is_spoilt-store.ensures ∙ unspoilt)).files (log_name n)) in
+    let kept = λ (unspoilt : c.is_spoilt-store.result ≡ false). as_was old new a.files b.files (c.in-Err.ensures.goes.refused (sym c.is_spoilt-store.ensures ∙ unspoilt)).1 (refl, refl, refl) refl (λ n. (seals.refused (sym c.is_spoilt-store.ensures ∙ unspoilt)).files (log_name n)) in
     record {
       acts = sealing_acts {R = Turned} old new a b stands.0 stands.1 c.args.moment stands.2.log.0 after G (Err c.in-Err.fault) stands.2 c.requires.ready.unspoilt c.requires.ready.late refl seals (λ unspoilt. (kept unspoilt).content)
           (λ unspoilt. (stands.0, stands.1, still_stands old new a b stands.0 stands.1 stands.2 (kept unspoilt) c.requires.ready.late (seals.refused (sym c.is_spoilt-store.ensures ∙ unspoilt))))
@@ -54,7 +56,7 @@ returns-in-Err-clause-told g c told =
 pub returns-in-Ok-clause-told : goal.returns-in-Ok-clause-told
 returns-in-Ok-clause-told g c told =
     let old = c.args.store.now in
-    let new : LogStore = record old { parts = record old.parts { log = c.rotate.new.self }; latest = c.args.moment } in
+    let new : LogStore = record old { parts = record old.parts { log = c.rotate.new.self; stats = c.count_written.new.stats }; latest = c.args.moment } in
     let F = old.parts.log.files in
     let G = c.rotate.new.self.files in
     let a = g.H.Host.state c.args.host.now in
@@ -65,10 +67,12 @@ returns-in-Ok-clause-told g c told =
     let after = λ (t : Turned). turned_held t F.unsealed F.file c.args.moment held in
     let ens = c.in-Ok.ensures in
     let seals = seals_main {R = Turned} F G a b c.args.moment held after (Ok c.in-Ok.turned) main (ens.told told held (from_main F a held main stands.2.log.1)) in
-    turned_told c.in-Ok.turned old new a b stands.0 stands.1 c.args.moment stands.2 c.requires.ready.unspoilt c.requires.ready.late refl (ens.goes.usable ens.goes.ok) (ens.goes.store ∙ main) ens.takes ens.turned seals (refl, refl, refl)
+    turned_told c.in-Ok.turned old new a b stands.0 stands.1 c.args.moment stands.2 c.requires.ready.unspoilt c.requires.ready.late refl c.requires.ready.usable.log (ens.goes.usable ens.goes.ok) (ens.goes.store ∙ main) ens.takes ens.turned seals (refl, refl, refl)
+    (subst (λ t. CountsWritten t (tail_of (files_of c.rotate.new.self)) old.parts.stats c.count_written.new.stats) c.tail-before.ensures
+    (subst (λ t. CountsWritten c.tail-before.result t old.parts.stats c.count_written.new.stats) c.tail.ensures c.count_written.ensures))
 
 pub returns-in-Ok-clause-rows : goal.returns-in-Ok-clause-rows
 returns-in-Ok-clause-rows g c =
     let old = c.args.store.now in
-    let new : LogStore = record old { parts = record old.parts { log = c.rotate.new.self }; latest = c.args.moment } in
+    let new : LogStore = record old { parts = record old.parts { log = c.rotate.new.self; stats = c.count_written.new.stats }; latest = c.args.moment } in
     turned_rows c.in-Ok.turned c.args.moment old new refl c.in-Ok.ensures.turned

@@ -5,7 +5,7 @@ use Rattle.cache_model.specs.declared.faults.StoreFault.TheVariants as fault
 use Rattle.cache_model.specs.declared.files.Place.{Place}
 use Rattle.cache_disk.proofs.Runs.{Stands-same}
 use Rattle.append_log.specs.declared.log_calls.Log.{Log}
-use Rattle.append_log.specs.Current.{files_of}
+use Rattle.append_log.specs.Current.{files_of, tail_of}
 use Rattle.append_log.specs.Current as append
 use Rattle.temporary_table.specs.Queue.{Queue}
 use Rattle.append_log.specs.Calls.{CountsIf, Goes, IsPut, IsSpentBy, Puts, PutsBy}
@@ -14,12 +14,14 @@ use Rattle.compactor.specs.declared.parts.Parts.{Parts}
 use Rattle.compactor.specs.Counting.{counts_in}
 use Rattle.compactor.specs.Stepping.{Notes, Seats}
 use Rattle.store_trait.specs.Meaning.{changed, key_of}
+use Rattle.file_stats.specs.Figures.{Figures}
 use Rattle.soft_index.specs.declared.log_store.LogStore.{LogStore}
+use Rattle.soft_index.specs.Counted.{CountsWritten}
 use Rattle.soft_index.specs.Store.{closed_frames, closes, content_of, item_by, next_of, waiting}
 use Rattle.soft_index.proofs.Images.{call_acts}
-use Rattle.soft_index.proofs.Changes.{IsAsWas, as_was, same_rows, still_acts, still_keeps, still_stands}
-use Rattle.soft_index.proofs.Entering.{Entered, entered_indexed, entered_plain, entered_rows, next_at, put_content, seated_was, seats_indexed, was_by}
-use Rattle.soft_index.proofs.Putting.{number_after, put_in, put_leaves, put_records, since_put, spent_number}
+use Rattle.soft_index.proofs.Changes.{IsAsWas, as_was, parts_counted, same_rows, still_acts, still_keeps, still_stands}
+use Rattle.soft_index.proofs.Entering.{Entered, entered_counts, entered_indexed, entered_plain, entered_rows, entered_tree, next_at, put_content, seated_was, seats_indexed, was_by}
+use Rattle.soft_index.proofs.Putting.{number_after, put_counted, put_in, put_leaves, put_records, since_put, spent_number}
 use Rattle.soft_index.proofs.Turning.{from_main}
 use Rattle.soft_index.proofs.writing.put.Given as given
 use Rattle.soft_index.proofs.writing.put.Goals as goal
@@ -30,8 +32,16 @@ returns-in_default-clause-told g c told =
     let new : LogStore = record old { latest = c.args.moment } in
     let a = g.H.Host.state c.args.host.now in
     let stands = c.requires.stands told in
-    still_acts {R = Unit {0}} old new a a c.args.moment (changed c.args.change.now (content_of old a.files)) stands.0 stands.1 (Err fault.Memory) stands.2 c.requires.ready.unspoilt c.requires.ready.late refl (as_was old new a.files a.files refl (refl, refl, refl) (λ n. refl)) (Stands-same a)
+    still_acts {R = Unit {0}} old new a a c.args.moment (changed c.args.change.now (content_of old a.files)) stands.0 stands.1 (Err fault.Memory) stands.2 c.requires.ready.unspoilt c.requires.ready.late refl (as_was old new a.files a.files refl (refl, refl, refl) refl (λ n. refl)) (Stands-same a)
     (λ d err. cc) (λ s err. cc) (λ err unspoilt. refl)
+
+pub returns-in_default-clause-kept : goal.returns-in_default-clause-kept
+returns-in_default-clause-kept g c told err unspoilt =
+    let old = c.args.store.now in
+    let new : LogStore = record old { latest = c.args.moment } in
+    let a = g.H.Host.state c.args.host.now in
+    let stands = c.requires.stands told in
+    still_keeps old new a a c.args.moment stands.0 stands.1 stands.2 c.requires.ready.unspoilt c.requires.ready.late refl (as_was old new a.files a.files refl (refl, refl, refl) refl (λ n. refl)) (Stands-same a)
 
 pub returns-in_default-copy-clause-told : goal.returns-in_default-copy-clause-told
 returns-in_default-copy-clause-told g c told =
@@ -39,8 +49,33 @@ returns-in_default-copy-clause-told g c told =
     let new : LogStore = record old { latest = c.args.moment } in
     let a = g.H.Host.state c.args.host.now in
     let stands = c.requires.stands told in
-    still_acts {R = Unit {0}} old new a a c.args.moment (changed c.args.change.now (content_of old a.files)) stands.0 stands.1 (Err fault.Memory) stands.2 c.requires.ready.unspoilt c.requires.ready.late refl (as_was old new a.files a.files refl (refl, refl, refl) (λ n. refl)) (Stands-same a)
+    still_acts {R = Unit {0}} old new a a c.args.moment (changed c.args.change.now (content_of old a.files)) stands.0 stands.1 (Err fault.Memory) stands.2 c.requires.ready.unspoilt c.requires.ready.late refl (as_was old new a.files a.files refl (refl, refl, refl) refl (λ n. refl)) (Stands-same a)
     (λ d err. cc) (λ s err. cc) (λ err unspoilt. refl)
+
+pub returns-in_default-copy-clause-kept : goal.returns-in_default-copy-clause-kept
+returns-in_default-copy-clause-kept g c told err unspoilt =
+    let old = c.args.store.now in
+    let new : LogStore = record old { latest = c.args.moment } in
+    let a = g.H.Host.state c.args.host.now in
+    let stands = c.requires.stands told in
+    still_keeps old new a a c.args.moment stands.0 stands.1 stands.2 c.requires.ready.unspoilt c.requires.ready.late refl (as_was old new a.files a.files refl (refl, refl, refl) refl (λ n. refl)) (Stands-same a)
+
+pub returns-in_default-reserve-clause-told : goal.returns-in_default-reserve-clause-told
+returns-in_default-reserve-clause-told g c told =
+    let old = c.args.store.now in
+    let new : LogStore = record old { parts = record old.parts { stats = c.reserve.new.self }; latest = c.args.moment } in
+    let a = g.H.Host.state c.args.host.now in
+    let stands = c.requires.stands told in
+    still_acts {R = Unit {0}} old new a a c.args.moment (changed c.args.change.now (content_of old a.files)) stands.0 stands.1 (Err fault.Memory) stands.2 c.requires.ready.unspoilt c.requires.ready.late refl (as_was old new a.files a.files refl (refl, refl, refl) c.reserve.ensures.rows (λ n. refl)) (Stands-same a)
+    (λ d err. cc) (λ s err. cc) (λ err unspoilt. refl)
+
+pub returns-in_default-reserve-clause-kept : goal.returns-in_default-reserve-clause-kept
+returns-in_default-reserve-clause-kept g c told err unspoilt =
+    let old = c.args.store.now in
+    let new : LogStore = record old { parts = record old.parts { stats = c.reserve.new.self }; latest = c.args.moment } in
+    let a = g.H.Host.state c.args.host.now in
+    let stands = c.requires.stands told in
+    still_keeps old new a a c.args.moment stands.0 stands.1 stands.2 c.requires.ready.unspoilt c.requires.ready.late refl (as_was old new a.files a.files refl (refl, refl, refl) c.reserve.ensures.rows (λ n. refl)) (Stands-same a)
 
 pub returns-in-Err-clause-told : goal.returns-in-Err-clause-told
 returns-in-Err-clause-told g c told =
@@ -49,7 +84,7 @@ returns-in-Err-clause-told g c told =
     let a = g.H.Host.state c.args.host.now in
     let stands = c.requires.stands told in
     let memory : c.in-Err.fault ≡ fault.Memory = c.in-Err.ensures.memory in
-    still_acts {R = Unit {0}} old new a a c.args.moment (changed c.args.change.now (content_of old a.files)) stands.0 stands.1 (Err c.in-Err.fault) stands.2 c.requires.ready.unspoilt c.requires.ready.late refl (seated_was c.in-Ok-copy.seated old new a stands.0 stands.1 stands.2 c.seat.ensures.seats c.requires.ready.late) (Stands-same a)
+    still_acts {R = Unit {0}} old new a a c.args.moment (changed c.args.change.now (content_of old a.files)) stands.0 stands.1 (Err c.in-Err.fault) stands.2 c.requires.ready.unspoilt c.requires.ready.late refl (seated_was c.in-Ok-copy.seated old new a stands.0 stands.1 c.reserve.new.self stands.2 c.reserve.ensures.rows c.seat.ensures.seats c.requires.ready.late) (Stands-same a)
     (λ d err. cc) (λ s err. cc) (λ err unspoilt. ap (λ q. q.waiting) c.seat.ensures.seats.requests)
 
 pub returns-in-Err-clause-unchanged : goal.returns-in-Err-clause-unchanged
@@ -58,7 +93,7 @@ returns-in-Err-clause-unchanged g c told err unspoilt =
     let new : LogStore = record old { parts = c.seat.new.self; latest = c.args.moment } in
     let a = g.H.Host.state c.args.host.now in
     let stands = c.requires.stands told in
-    (seated_was c.in-Ok-copy.seated old new a stands.0 stands.1 stands.2 c.seat.ensures.seats c.requires.ready.late).content
+    (seated_was c.in-Ok-copy.seated old new a stands.0 stands.1 c.reserve.new.self stands.2 c.reserve.ensures.rows c.seat.ensures.seats c.requires.ready.late).content
 
 pub returns-in-Err-clause-kept : goal.returns-in-Err-clause-kept
 returns-in-Err-clause-kept g c told err unspoilt =
@@ -66,7 +101,7 @@ returns-in-Err-clause-kept g c told err unspoilt =
     let new : LogStore = record old { parts = c.seat.new.self; latest = c.args.moment } in
     let a = g.H.Host.state c.args.host.now in
     let stands = c.requires.stands told in
-    still_keeps old new a a c.args.moment stands.0 stands.1 stands.2 c.requires.ready.unspoilt c.requires.ready.late refl (seated_was c.in-Ok-copy.seated old new a stands.0 stands.1 stands.2 c.seat.ensures.seats c.requires.ready.late) (Stands-same a)
+    still_keeps old new a a c.args.moment stands.0 stands.1 stands.2 c.requires.ready.unspoilt c.requires.ready.late refl (seated_was c.in-Ok-copy.seated old new a stands.0 stands.1 c.reserve.new.self stands.2 c.reserve.ensures.rows c.seat.ensures.seats c.requires.ready.late) (Stands-same a)
 
 -- where the record was written
 
@@ -78,11 +113,20 @@ entered g c =
     let new : LogStore = record old { parts = c.note.new.self; latest = c.args.moment } in
     let named : c.in-Ok.key ≡ key_of change = c.in-Ok.ensures.equal ∙ c.key_of.ensures in
     let seated : c.in-Ok-copy.seated ≡ key_of change = c.in-Ok-copy.ensures.equal ∙ c.key_of-2.ensures in
+    let figures : Figures = c.count_written.new.stats in
     record {
+      reserved = c.reserve.new.self;
+      rows = c.reserve.ensures.rows;
+      room = c.in-Ok-reserve.ensures.room;
       seated = c.seat.new.self;
       log = c.put_change.new.self;
-      seats = subst (λ (k : List ℕ). Seats k old.parts c.seat.new.self) seated c.seat.ensures.seats;
-      notes = subst (λ (k : List ℕ). Notes k place c.is_gone.result (record c.seat.new.self { log = c.put_change.new.self }) new.parts) named c.note.ensures.notes;
+      figures = figures;
+      seats = subst (λ (k : List ℕ). Seats k (record old.parts { stats = c.reserve.new.self }) c.seat.new.self) seated c.seat.ensures.seats;
+      counts = subst (λ (f : Figures). CountsWritten (tail_of (files_of old.parts.log)) (tail_of (files_of c.put_change.new.self)) f figures) c.seat.ensures.seats.stats
+          (subst (λ (l : Log). CountsWritten (tail_of (files_of l)) (tail_of (files_of c.put_change.new.self)) c.seat.new.self.stats figures) c.seat.ensures.seats.log
+          (subst (λ t. CountsWritten t (tail_of (files_of c.put_change.new.self)) c.seat.new.self.stats figures) c.tail-before.ensures
+          (subst (λ t. CountsWritten c.tail-before.result t c.seat.new.self.stats figures) c.tail.ensures c.count_written.ensures)));
+      notes = subst (λ (k : List ℕ). Notes k place c.is_gone.result (record c.seat.new.self { log = c.put_change.new.self; stats = figures }) new.parts) named c.note.ensures.notes;
       gone_is = c.is_gone.ensures (next_of old);
       latest = c.requires.ready.late;
     }
@@ -140,10 +184,16 @@ returns-in-Ok-put_change-clause-wrote g c told frames records stands =
     let file = number_after old new change c.args.moment place (put_is g c) in
     let main = (goes g c).store ∙ usable.main in
     let same = put_records over c.args.moment (item_by (next_of old) change) old new a b frames records place stands main file puts in
+    let one = entered g c in
     let indexed =
-    entered_indexed change place c.is_gone.result old new c.args.moment (entered g c) (goes g c) (put_is g c) usable a b frames records over stands same (next_at over frames records place puts.at)
+    entered_indexed change place c.is_gone.result old new c.args.moment one (goes g c) (put_is g c) usable a b frames records over stands same (next_at over frames records place puts.at)
     in
-    put_in over change c.args.moment old new a b frames records place stands refl c.requires.ready.late refl ((goes g c).usable (goes g c).ok) main (put_is g c).next_seq file puts indexed
+    let log = (goes g c).usable (goes g c).ok in
+    let counted =
+    put_counted over change c.args.moment old new a b frames records place one.reserved stands refl usable.log log main (put_is g c) file puts one.rows one.room
+    (entered_tree change place c.is_gone.result old new c.args.moment one (goes g c) (put_is g c) usable) (entered_counts change place c.is_gone.result old new c.args.moment one (goes g c) (put_is g c) usable)
+    in
+    put_in over change c.args.moment old new a b frames records place stands refl c.requires.ready.late refl log main (put_is g c).next_seq file puts indexed counted
 
 pub returns-in-Ok-put_change-clause-content : goal.returns-in-Ok-put_change-clause-content
 returns-in-Ok-put_change-clause-content g c told =
@@ -210,7 +260,8 @@ refused_was g c told unspoilt =
     let sound = sym c.is_spoilt-store.ensures ∙ unspoilt in
     let logged : Parts = record c.seat.new.self { log = c.put_change.new.self } in
     was_by old new a b stands.0 stands.1 stands.2 ((goes_refused g c).refused sound).1
-    (λ kept is. seats_indexed c.in-Ok.key logged c.unseat.new.self (counts_in kept) c.unseat.ensures.seats (seats_indexed c.in-Ok-copy.seated old.parts c.seat.new.self (counts_in kept) c.seat.ensures.seats is))
+    (λ kept is. seats_indexed c.in-Ok.key logged c.unseat.new.self (counts_in kept) c.unseat.ensures.seats (seats_indexed c.in-Ok-copy.seated (record old.parts { stats = c.reserve.new.self }) c.seat.new.self (counts_in kept) c.seat.ensures.seats is))
+    (parts_counted old.parts new.parts (ap (λ (f : Figures). f.rows) (c.unseat.ensures.seats.stats ∙ c.seat.ensures.seats.stats) ∙ c.reserve.ensures.rows) (c.unseat.ensures.seats.tree ∙ c.seat.ensures.seats.tree))
     ((puts_refused g c told (record { closed = stands.2.log.0; frames = stands.0; records = stands.1 }) stands.2.log.1).refused sound) c.requires.ready.late
 
 refused_waits : (g : given.Over) (c : goal.After-drop-key-inside-in-Err-put_change g) → c.unseat.new.self.requests ≡ c.args.store.now.parts.requests

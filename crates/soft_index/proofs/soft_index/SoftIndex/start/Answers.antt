@@ -41,4 +41,5 @@ returns-in-Ok-clause-started g c told =
       empties = λ a b same. same;
       room = λ a b. subst (λ (n : ℕ). MakesRoom n a b) limit;
       steps = λ kind turned a b steps. steps;
+      counts = λ read figures a b counts. counts;
     }

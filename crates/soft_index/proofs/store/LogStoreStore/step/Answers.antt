@@ -14,7 +14,7 @@ returns-clause-told g c told =
     let a = g.H.Host.state c.args.host.now in
     let stands = c.requires.stands told in
     record {
-      acts = still_acts {R = Turned} old new a a c.args.moment (content_of old a.files) stands.0 stands.1 (Ok Idle) stands.2 c.requires.ready.unspoilt c.requires.ready.late refl (as_was old new a.files a.files refl (refl, refl, refl) (λ n. refl)) (Stands-same a)
+      acts = still_acts {R = Turned} old new a a c.args.moment (content_of old a.files) stands.0 stands.1 (Ok Idle) stands.2 c.requires.ready.unspoilt c.requires.ready.late refl (as_was old new a.files a.files refl (refl, refl, refl) refl (λ n. refl)) (Stands-same a)
           (λ d err. cc) (λ s err. cc) (λ err. cc);
       content = λ key. inl refl;
       marks = λ key r m may. inl refl;

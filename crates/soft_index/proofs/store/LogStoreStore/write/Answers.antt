@@ -23,7 +23,7 @@ returns-in-Some-clause-told g c told =
     let spent : spent_by old c.args.change.now ≡ Some c.in-Some.spent = sym c.spent_by.ensures ∙ c.in-Some.is in
     record {
       acts = still_acts {R = Unit {0}} old new a a c.args.moment (changed c.args.change.now (content_of old a.files)) stands.0 stands.1 (Err (fault.Spent c.in-Some.spent)) stands.2 c.requires.ready.unspoilt c.requires.ready.late refl
-          (as_was old new a.files a.files refl (refl, refl, refl) (λ n. refl)) (Stands-same a) (λ d err. cc)
+          (as_was old new a.files a.files refl (refl, refl, refl) refl (λ n. refl)) (Stands-same a) (λ d err. cc)
           (λ s err. let same : c.in-Some.spent ≡ s = cc in spent_number old new c.args.change.now s (spent ∙ ap (λ (x : Spent). Some x) same) (refl, refl)) (λ err. cc);
       content = tt;
       unchanged = λ of. cc;

@@ -1,0 +1,41 @@
+use Rattle.std.proofs.Common.{◌≡◌, ℕ, true, refl}
+use Rattle.data_file.proofs.Frame.{placed_of}
+use Rattle.compactor.specs.Counting.{Kept}
+use Rattle.soft_index.specs.declared.log_store.LogStore.{LogStore}
+use Rattle.soft_index.specs.Store.{number}
+use Rattle.soft_index.proofs.Counted.{sizes_counted}
+use Rattle.soft_index.proofs.Emptied.{figured, figures_failed}
+use Rattle.soft_index.proofs.There.{there_by}
+use Rattle.soft_index.proofs.store.LogStoreFileStore.figures.Goals as goal
+
+pub returns-in-Err-clause-told : goal.returns-in-Err-clause-told
+returns-in-Err-clause-told g c told =
+    let old = c.args.self.now in
+    let new : LogStore = record old { parts = record c.empty_queue.new.self { spoilt = true }; latest = c.args.moment } in
+    let a = g.H.Host.state c.args.host.now in
+    let b = g.H.Host.state c.empty_queue.new.host in
+    let stands = c.requires.stands told in
+    let ens = c.in-Err.ensures in
+    let kept : Kept = record { number = number old; items = placed_of stands.0 stands.1; files = a.files } in
+    let there = there_by old a stands.0 stands.1 stands.2.log stands.2.named in
+    figures_failed old new a b stands.0 stands.1 c.args.moment stands.2 c.requires.ready.unspoilt c.requires.ready.late refl (ens.stands told) c.in-Err.fault refl
+    (λ d err. (ens.keeps told kept stands.2.indexed there).undamaged d cc) (λ s err. ens.unspent s cc)
+
+triple : (p : ℕ × ℕ × ℕ) (a b d : ℕ) → p.0 ≡ a → p.1 ≡ b → p.2 ≡ d → p ≡ (a, b, d)
+triple (x, y, z) a b d first second third = cc
+
+pub returns-clause-told : goal.returns-clause-told
+returns-clause-told g c told =
+    let old = c.args.self.now in
+    let new : LogStore = record old { parts = c.empty_queue.new.self; latest = c.args.moment } in
+    let a = g.H.Host.state c.args.host.now in
+    let b = g.H.Host.state c.empty_queue.new.host in
+    let stands = c.requires.stands told in
+    let ens = c.in_default.ensures in
+    let kept : Kept = record { number = number old; items = placed_of stands.0 stands.1; files = a.files } in
+    let there = there_by old a stands.0 stands.1 stands.2.log stands.2.named in
+    let unspoilt = ens.empties.unspoilt in
+    figured old new a b stands.0 stands.1 c.args.moment stands.2 c.requires.ready.unspoilt c.requires.ready.late refl (ens.stands told) c.totals.result
+    (ens.empties.log unspoilt) ((ens.keeps told kept stands.2.indexed there).indexed unspoilt)
+    (sizes_counted kept old.parts new.parts (ens.empties.sizes unspoilt) stands.2.counted (ens.figures told kept stands.2.indexed there stands.2.counted.live unspoilt))
+    ens.empties.emptied (triple c.totals.result _ _ _ c.totals.ensures.files c.totals.ensures.bytes c.totals.ensures.live)
