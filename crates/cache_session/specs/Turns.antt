@@ -5,6 +5,7 @@ use Rattle.cache_model.specs.declared.commands.Command.{Command}
 use Rattle.cache_model.specs.declared.commands.Command.TheVariants.{At, Sync, Stop, Step, Evict, Halt, CompactAll, CompactFile, Stats, Export}
 use Rattle.cache_model.specs.declared.commands.StepKind.{StepKind}
 use Rattle.cache_model.specs.declared.commands.StepKind.TheVariants as step
+use Rattle.cache_model.specs.declared.replies.Figures.{Figures}
 use Rattle.cache_model.specs.declared.replies.Reply.{Reply}
 use Rattle.cache_model.specs.declared.replies.Reply.TheVariants as reply
 use Rattle.cache_model.specs.declared.replies.Turned.{Turned}
@@ -14,6 +15,7 @@ use Rattle.cache_model.specs.declared.faults.StoreFault.TheVariants as fault
 use Rattle.cache_model.specs.declared.faults.Spent.{Spent}
 use Rattle.cache_model.specs.declared.faults.Spent.TheVariants.{Files, Sequence}
 use Rattle.cache_model.specs.declared.faults.Damage.{Damage}
+use Rattle.cache_model.specs.Files.{Image}
 use Rattle.cache_model.specs.Plain.{Plain, effect_of, plain_after, plain_reply, moment_after}
 use Rattle.cache_model.specs.Changes.{changes_by}
 use Rattle.cache_disk.specs.State.{HostState, Silent}
@@ -46,7 +48,6 @@ command_of (Actor kind) = Step kind
 abbrev pub IsBuilt : Command → Type 0
 IsBuilt CompactAll = ⊥
 IsBuilt (CompactFile number) = ⊥
-IsBuilt Stats = ⊥
 IsBuilt Export = ⊥
 IsBuilt command = Unit {0}
 
@@ -79,10 +80,11 @@ pub record IsContentAfter (f : StoreFacts) (moment turn : ℕ) (changes : List C
   pub at_marks : (key : List ℕ) (r : Reading) (mark : ℕ) → new.may turn key r mark
       → IsAlike (f.forgets key) mark (read_in new.content key) (read_in (after_all changes old.content) key)
 
--- How a call goes about: by its changes alone, by a sync, or by a step.
+-- How a call goes about: by its changes alone, by a sync, by a count of the files, or by a step.
 pub data Way : Type 0 where
   by_changes : Way
   by_sync : Way
+  by_count : Way
   by_step : (kind : StepKind) → Way
 
 -- how changes that are written in turn move the parts of a store
@@ -90,10 +92,11 @@ abbrev pub MovesBy : (Change → List Row → List Row → Type 0) → List Chan
 MovesBy moves [] a b = b ≡ a
 MovesBy moves (change ∷ changes) a b = (c : List Row) × moves change a c × MovesBy moves changes c b
 
--- how a call moves them; a step says it with its answer
+-- how a call moves them; a count and a step say it with their answers
 abbrev pub PartsBy : Way → StoreFacts → List Change → List Row → List Row → Type 0
 PartsBy by_changes f changes a b = MovesBy f.moves changes a b
 PartsBy by_sync f changes a b = f.empties a b
+PartsBy by_count f changes a b = Unit {0}
 PartsBy (by_step kind) f changes a b = Unit {0}
 
 -- they stay, or room was made in them
@@ -109,6 +112,7 @@ files_of kind = 0
 abbrev pub files_in : Way → ℕ
 files_in by_changes = 0
 files_in by_sync = 0
+files_in by_count = 0
 files_in (by_step kind) = files_of kind
 
 -- Nothing was changed: neither what the content shows, nor what may be left, nor a number.
@@ -171,15 +175,22 @@ StepMoves step.Evict old turned a b = (turned ≡ Idle) × (b ≡ a)
 StepMoves step.Reap old turned a b = (turned ≡ Idle) × (b ≡ a)
 StepMoves kind old turned a b = old.steps kind turned a b
 
--- a step is answered with what it did, and moved the parts so
-abbrev pub IsStepReply : Command → StoreState → List Row → List Row → Reply → Type 0
-IsStepReply (Step kind) old a b answer = (turned : Turned) × (answer ≡ reply.Turned turned) × StepMoves kind old turned a b
-IsStepReply command old a b answer = Unit {0}
+-- the figures of a count of the files, where no change waits to be written and nothing is held in memory
+abbrev pub figures_of : ℕ × ℕ × ℕ → Figures
+figures_of count = record { files = count.0; bytes = count.1; live = count.2; pending = 0; held = 0 }
+
+-- What the store itself answers: a step is answered with what it did, and `stats` with the figures of the files as they
+-- read. The parts were moved so.
+abbrev pub IsStoreReply : Command → StoreFacts → StoreState → Image → List Row → List Row → Reply → Type 0
+IsStoreReply (Step kind) f old files a b answer = (turned : Turned) × (answer ≡ reply.Turned turned) × StepMoves kind old turned a b
+IsStoreReply Stats f old files a b answer = (count : ℕ × ℕ × ℕ) × (answer ≡ reply.Stats (figures_of count)) × f.counts files count a b
+IsStoreReply command f old files a b answer = Unit {0}
 
 -- how a command goes about
 abbrev pub way_of : Command → Way
 way_of Sync = by_sync
 way_of Stop = by_sync
+way_of Stats = by_count
 way_of (Step kind) = by_step kind
 way_of command = by_changes
 
@@ -201,7 +212,7 @@ pub record Turns (publish : List ℕ) (plain : Plain) (command : Command) (f g :
   pub did : Did (way_of command) f g spoilt old new before after plain.moment changes result
   pub shows : OnOk result (Shows (plain_after plain command) new.content)
   pub reply : IfOk result (λ reply. IsReplyOf (plain_reply publish plain command) reply)
-  pub step : IfOk result (λ reply. IsStepReply command old f.parts g.parts reply)
+  pub store : IfOk result (λ reply. IsStoreReply command f old before.files f.parts g.parts reply)
   pub promised : (key : List ℕ) → promises f.firm plain command key ≡ true → OnOk result (IsOnly g new after.turn key)
   pub idle : is_idle command ≡ true → after.turn ≡ before.turn
 

@@ -4,6 +4,7 @@
 mod calls;
 mod conditions;
 mod event;
+mod files;
 mod reads;
 mod session;
 #[cfg(test)]

@@ -7,13 +7,14 @@ ghost use Rattle.cache_session.specs.Turns.{store_of, moment_of, is_broken, comm
 
 use crate::Event;
 use crate::conditions::{put_absent, remove, remove_if, replace, replace_if};
+use crate::files::stats;
 use crate::reads::{get, has};
 use crate::walks::{clear, keys, size};
 use crate::writes::{put, step, stop, sync};
 use cache_disk::Host;
 use cache_model::{Command, Reply, StoreFault};
 use std::alloc::Global;
-use store_trait::{Keyed, Store};
+use store_trait::{FileStore, Keyed};
 
 /// A store with the moment of the commands on it.
 ///
@@ -89,7 +90,7 @@ impl<S> Session<S> {
     /// Takes a turn: does a command of the script, or a step of a background actor.
     pub fn turn<H: Host>(&mut self, host: &mut H, event: Event) -> Result<Reply, StoreFault>
     where
-        S: Store<H>,
+        S: FileStore<H>,
         requires fit { IsFit (S.facts (store_of self.old)) (is_broken self.old) (moment_of self.old) }
         requires stands { IsTrue H.tells → (S.means (store_of self.old) (H.state host.old)).stands }
         requires command { IsCommand (command_of event) }
@@ -129,9 +130,8 @@ impl<S> Session<S> {
             Command::Sync => sync(store, host, moment),
             Command::Stop => stop(store, host, moment),
             Command::Halt => Ok(Reply::Halted),
-            Command::CompactAll | Command::CompactFile(_) | Command::Stats | Command::Export => {
-                unreachable!()
-            }
+            Command::Stats => stats(store, host, moment),
+            Command::CompactAll | Command::CompactFile(_) | Command::Export => unreachable!(),
         }
     }
 }

@@ -31,6 +31,7 @@ enum Verb {
     Step(StepKind),
     Evict,
     Sync,
+    Stats,
     Stop,
     Halt,
 }
@@ -75,19 +76,21 @@ const LIFESPANS: [Row; 9] = [
 ];
 
 /// What settles the store, and what leaves it.
-const ENDS: [Row; 8] = [
+const ENDS: [Row; 10] = [
     (Verb::Put, "k", "v", ""),
     (Verb::Step(StepKind::Index), "-", "", ""),
     (Verb::Step(StepKind::Compact), "-", "", ""),
     (Verb::Step(StepKind::Reap), "-", "", ""),
     (Verb::Evict, "k", "", ""),
+    (Verb::Stats, "-", "", ""),
     (Verb::Sync, "-", "", ""),
+    (Verb::Get, "k", "", ""),
     (Verb::Stop, "-", "", ""),
     (Verb::Halt, "-", "", ""),
 ];
 
 /// What a mix of commands is drawn from.
-const MIX: [Verb; 17] = [
+const MIX: [Verb; 18] = [
     Verb::Put,
     Verb::Put,
     Verb::PutFor(3),
@@ -105,11 +108,20 @@ const MIX: [Verb; 17] = [
     Verb::Keys,
     Verb::Clear,
     Verb::Sync,
+    Verb::Stats,
 ];
 
 const KEYS: [&str; 6] = ["a", "b", "ab", "c", "\0", "key"];
 
 const VALUES: [&str; 3] = ["", "1", "value"];
+
+/// What is answered where the plain map doesn't say: a store in memory has no files, and nothing to do for its actors.
+fn unsaid(verb: Verb) -> &'static str {
+    match verb {
+        Verb::Stats => "Stats(Figures { files: 0, bytes: 0, live: 0, pending: 0, held: 0 })",
+        _ => "Turned(Idle)",
+    }
+}
 
 /// A session with the plain map that it is to answer like.
 #[derive(Drop)]
@@ -141,6 +153,7 @@ fn command_of(verb: Verb, key: Key, value: Value, old: Value) -> Command
         Verb::Step(kind) => Command::Step(kind),
         Verb::Evict => Command::Evict(key),
         Verb::Sync => Command::Sync,
+        Verb::Stats => Command::Stats,
         Verb::Stop => Command::Stop,
         Verb::Halt => Command::Halt,
     }
@@ -186,7 +199,7 @@ impl Pair {
         let text = format!(in alloc; "{reply:?}")?;
         let wanted = match said {
             Some(said) => format!(in alloc; "{said:?}")?,
-            None => format!(in alloc; "Turned(Idle)")?,
+            None => String::from_str(alloc, unsaid(row.0))?,
         };
         assert!(rt;
             text.as_str() == wanted.as_str(),
