@@ -5,6 +5,7 @@ use Rattle.std.specs.List.{list_any}
 use Rattle.std.proofs.lemmas.List.{append-nil}
 use Rattle.cache_model.specs.declared.commands.Command.{Command}
 use Rattle.cache_model.specs.declared.commands.Command.TheVariants.{Stop}
+use Rattle.cache_model.specs.Files.{Image}
 use Rattle.cache_model.specs.Plain.{Plain, plain_after_all}
 use Rattle.cache_model.specs.Lines.{LineMeaning, asks, refuses, meaning_of}
 use Rattle.cache_model.specs.Replies.{Response, replies, refused, opened_line, response_lines, response_text, line_of, stopped_line}
@@ -123,17 +124,17 @@ module _ (course : Course) (left : List (List ℕ)) (talk : Talk) (going : is_ov
   done-going = ap (λ (b : Bool). commands_done talk.answered talk.responses ++ end_commands b) (not_ended talk going) ∙ append-nil (commands_done talk.answered talk.responses)
 
   -- the commands of a talk with one answer more
-  pub done-append : (line : List ℕ) (response : Response) → IsTalk talk course (line ∷ left) → done_in (with_answer talk line response) ≡ done_in talk ++ command_done (meaning_of line) response
-  done-append line response is =
+  pub done-append : (read : Image → Type 0) (line : List ℕ) (response : Response) → IsTalk read talk course (line ∷ left) → done_in (with_answer talk line response) ≡ done_in talk ++ command_done (meaning_of line) response
+  done-append read line response is =
       ap (λ (b : Bool). commands_done (talk.answered ++ line ∷ []) (talk.responses ++ response ∷ []) ++ end_commands b) (not_ended talk going)
       ∙ append-nil (commands_done (talk.answered ++ line ∷ []) (talk.responses ++ response ∷ []))
       ∙ commands_done-append [] talk.opening talk.answered talk.responses line response is.answers
       ∙ ap (λ (cs : List Command). cs ++ command_done (meaning_of line) response) (sym done-going)
 
   -- a talk with one answer more is about the lines that are left then
-  pub talk-append : (line : List ℕ) (response : Response) (taken : ℕ) (rows : List Row) → IsTalk talk course (line ∷ left) → Answers [] (plain_of talk) (meaning_of line) response
-      → HasMoved course.pace talk.opening (talk.answered ++ line ∷ []) (talk.responses ++ response ∷ []) taken rows → IsTalk (with_answer talk line response) course left
-  talk-append line response taken rows is answers moved = record {
+  pub talk-append : (read : Image → Type 0) (line : List ℕ) (response : Response) (taken : ℕ) (rows : List Row) → IsTalk read talk course (line ∷ left) → Answers [] (plain_of talk) (meaning_of line) response
+      → HasMoved read course.pace talk.opening (talk.answered ++ line ∷ []) (talk.responses ++ response ∷ []) taken rows → IsTalk read (with_answer talk line response) course left
+  talk-append read line response taken rows is answers moved = record {
     opens = is.opens;
     first = is.first;
     file = is.file;
@@ -159,8 +160,8 @@ module _ (course : Course) (left : List (List ℕ)) (talk : Talk) (going : is_ov
   pub done-end : done_in (with_end talk) ≡ done_in talk ++ Stop ∷ []
   done-end = ap (λ (cs : List Command). cs ++ Stop ∷ []) (sym done-going)
 
-  pub talk-end : IsTalk talk course left → left ≡ [] → IsTalk (with_end talk) course []
-  talk-end is none = record {
+  pub talk-end : (read : Image → Type 0) → IsTalk read talk course left → left ≡ [] → IsTalk read (with_end talk) course []
+  talk-end read is none = record {
     opens = is.opens;
     first = is.first;
     file = is.file;

@@ -1,6 +1,6 @@
 -- What a background step comes to in a run.
 use Rattle.std.proofs.Common.{◌≡◌, ℕ, suc, ◌+◌, ◌-◌, ◌≤◌, Bool, true, false, List, [], ◌∷◌, ◌++◌, length, Ok, Err, refl, sym, ◌∙◌, ap, subst, arith, length-append}
-use Rattle.std.specs.Prelude.{Result, IsErr, IsErrAnd, if◌then◌else◌}
+use Rattle.std.specs.Prelude.{Result, IsErr, IsErrAnd, IfErr, OnOk, if◌then◌else◌}
 use Rattle.std.specs.Bool.{Decides}
 use Rattle.std.specs.Str.{bytes_eq}
 use Rattle.std.proofs.lemmas.Slice.Eq.{bytes_eq-Decides}
@@ -16,7 +16,7 @@ use Rattle.cache_model.specs.declared.replies.Reply.{Reply}
 use Rattle.cache_model.specs.declared.replies.Status.{Status}
 use Rattle.cache_disk.specs.State.{HostState}
 use Rattle.store_trait.specs.Meaning.{key_of, entry_of}
-use Rattle.store_trait.specs.Keeping.{SameStore}
+use Rattle.store_trait.specs.Keeping.{SameWhere, SameStore}
 use Rattle.store_trait.specs.Calls.{IsNumbered}
 use Rattle.cache_session.specs.Changing.{of_key}
 use Rattle.cache_session.specs.Turns.{files_of, files_by, KeepsBy, IsContentAfter, Turns, Goes}
@@ -24,8 +24,9 @@ use Rattle.cache_cli.specs.Fitting.{IsLog}
 use Rattle.cache_cli.specs.Parts.{ActorMoves, RowsMove, FollowsParts}
 use Rattle.cache_cli.specs.Pump.{background_step, files_by_steps}
 use Rattle.cache_cli.specs.Saying.{ended_by, IsNoDamage}
-use Rattle.cache_cli.specs.Talk.{Course, Talk, done_in, plain_of, is_over, hand_of, next_command, asked_in}
-use Rattle.cache_cli.specs.Run.{View, IsPumping, HoldsSince, EndsAtSpent, EndsBy, Pumped}
+use Rattle.cache_cli.specs.Talk.{Course, Talk, HasRead, done_in, plain_of, is_over, hand_of, next_command, asked_in}
+use Rattle.cache_cli.specs.Run.{View, IsLater, IsPumping, HoldsSince, EndsAtSpent, EndsBy, Pumped}
+use Rattle.cache_cli.proofs.Later.{later_by, talk_later, moved_later}
 use Rattle.cache_cli.proofs.Logs.{log_on}
 use Rattle.cache_cli.proofs.Moving.{actor_moves}
 use Rattle.cache_cli.proofs.Pumping.{has_stepped, files_later}
@@ -59,6 +60,9 @@ module _ (from : HostState) (course : Course) (ordered : Bool) (left : List (Lis
         let log : pumping.0.standing.log ≡ pumping.0.standing.log ++ turn.changes = sym (ap (λ (c : List Change). pumping.0.standing.log ++ c) none ∙ append-nil pumping.0.standing.log) in
         turn_holds from course ordered left talk taken old new (Step kind) spoilt result pumping same turn (subst (λ (l : List Change). GoesOnTo course left talk l) log on)
 
+    later_turn : IsLater old.host new.host
+    later_turn = later_by old.host new.host (SameWhere old.facts.owns false) turn.did.others.images
+
     said_still : new.host.said new.host.turn ≡ old.host.said old.host.turn
     said_still = quiet_end old.host new.host turn.did.others.images.later turn.did.silent
 
@@ -70,9 +74,11 @@ module _ (from : HostState) (course : Course) (ordered : Bool) (left : List (Lis
       let so = pumping.0 in
       let nothing = none (Ok reply) turn in
       let holds = step_holds (Ok reply) turn in
-      let moves = subst (λ (k : StepKind). RowsMove course.pace.queue (ActorMoves k turn.step.0) old.facts.parts new.facts.parts) is
-      (actor_moves course.pace.queue old.facts old.store so.follows kind turn.step.0 old.facts.parts new.facts.parts turn.step.2) in
-      let moved = has_stepped course.pace talk.opening talk.answered talk.responses taken old.facts.parts new.facts.parts so.parts turn.step.0 room moves in
+      let moves = subst (λ (k : StepKind). RowsMove course.pace.queue (ActorMoves k turn.store.0) old.facts.parts new.facts.parts) is
+      (actor_moves course.pace.queue old.facts old.store so.follows kind turn.store.0 old.facts.parts new.facts.parts turn.store.2) in
+      let later = later_turn (Ok reply) turn in
+      let before = moved_later course old.host new.host later talk.opening talk.answered talk.responses taken old.facts.parts so.parts in
+      let moved = has_stepped (HasRead course new.host) course.pace talk.opening talk.answered talk.responses taken old.facts.parts new.facts.parts before turn.store.0 room moves in
       record {
         goes = (
           kept_tells from course ordered left left talk taken (suc taken) old new (old.host.said old.host.turn) (new.host.said new.host.turn) talk.answered talk.responses talk.ended (files_of kind) so same turn.did.others.images.later
@@ -82,7 +88,7 @@ module _ (from : HostState) (course : Course) (ordered : Bool) (left : List (Lis
               (omega (arith, turn.did.drawn, ap (λ (c : List Change). length c) nothing))
               (omega (arith, turn.did.made, ap (λ (c : List Change). length c) nothing))
               (ap (λ (k : StepKind). files_by_steps taken + files_of k) (sym is))
-              (turn.did.stands unspoilt) (turn.did.sound so.sound) moment follows holds refl so.is_talk moved (said_still (Ok reply) turn ∙ so.says),
+              (turn.did.stands unspoilt) (turn.did.sound so.sound) moment follows holds refl (talk_later course old.host new.host later talk left so.is_talk) moved (said_still (Ok reply) turn ∙ so.says),
           pumping.1,
         );
         ends = tt;
@@ -105,7 +111,7 @@ module _ (from : HostState) (course : Course) (ordered : Bool) (left : List (Lis
       record {
         talk = talk;
         left = left;
-        says = says_of from course ordered left talk taken old (old.host.said old.host.turn) new.host so (said_still (Err (fault.Spent s)) turn);
+        says = says_of from course ordered left talk taken old (old.host.said old.host.turn) new.host so (said_still (Err (fault.Spent s)) turn) (later_turn (Err (fault.Spent s)) turn);
         going = pumping.1;
         log = log;
         is_log = subst (λ (b : Bool). IsLog talk.opening (done_in talk ++ hand_of b left) log) pumping.1 on.1;
@@ -122,16 +128,28 @@ module _ (from : HostState) (course : Course) (ordered : Bool) (left : List (Lis
       → Pumped from course ordered left talk (suc taken) new (Err ended)
   step_ended x ended broken at calm turn goes = record {
     goes = tt;
-    ends = ends_by_fault course new x ended at calm (ends_early from course ordered left talk taken old new.host pumping (said_still (Err x) turn))
+    ends = ends_by_fault course new x ended at calm (ends_early from course ordered left talk taken old new.host pumping (said_still (Err x) turn) (later_turn (Err x) turn))
         (λ s same_fault. step_spent s broken
         (subst (λ (y : StoreFault). Turns [] (plain_of talk) (Step kind) old.facts new.facts spoilt old.store new.store old.host new.host (Err y)) same_fault turn)
         (subst (λ (y : StoreFault). Goes (Step kind) old.facts new.facts old.moment new.moment broken (Err y)) same_fault goes));
     holds = step_holds (Err x) turn;
   }
 
+-- what holds on Ok alone, and what holds of the error, where it is this one
+none_done : (P : Type 0) (result : Result (Unit {0}) Status) → IsErr result → OnOk result P
+none_done P (Ok done) is = cc
+none_done P (Err status) is = tt
+
+of_error : (P : Status → Type 0) (ended : Status) (result : Result (Unit {0}) Status) → IsErrAnd result (λ given. given ≡ ended) → P ended → IfErr result P
+of_error P ended (Ok done) is holds = absurd is
+of_error P ended (Err status) is holds = subst P (sym is) holds
+
 -- the steps behind an answer ended with one of them
 pub pumped_out : (from : HostState) (course : Course) (ordered : Bool) (left : List (List ℕ)) (talk : Talk) (taken : ℕ) (now : View) (ended : Status) (result : Result (Unit {0}) Status)
     → IsErr result × IsErrAnd result (λ given. given ≡ ended)
     → EndsBy ended course now → HoldsSince from course ordered now → Pumped from course ordered left talk taken now result
-pumped_out from course ordered left talk taken now ended (Ok done) is ends holds = cc
-pumped_out from course ordered left talk taken now ended (Err status) is ends holds = record { goes = tt; ends = subst (λ (s : Status). EndsBy s course now) (sym is.1) ends; holds = holds }
+pumped_out from course ordered left talk taken now ended result is ends holds = record {
+  goes = none_done (IsPumping from course ordered left talk taken now) result is.0;
+  ends = of_error (λ status. EndsBy status course now) ended result is.1 ends;
+  holds = holds;
+}

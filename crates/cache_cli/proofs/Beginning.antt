@@ -22,12 +22,14 @@ use Rattle.cache_cli.specs.Run.{View, HoldsSince, IsTelling, IsInHand, Told}
 use Rattle.cache_cli.specs.Steps.{IsTalkingOn, Ran}
 use Rattle.cache_cli.specs.Opening.{first_talk, Begins, Finished}
 use Rattle.cache_cli.proofs.Ending.{ends_early}
+use Rattle.cache_cli.proofs.Later.{later_same}
 use Rattle.cache_cli.proofs.Standing.{opening_same}
 
 module _ (course : Course) (ordered : Bool) (now : View) (begins : Begins course ordered now) (holds : HoldsNow now.facts now.store now.host.turn) where
   -- nothing has happened since
   pub since_now : HoldsSince now.host course ordered now
   since_now = record {
+    since = begins.since;
     others = record {
       files = λ name is. refl;
       images = record { later = omega arith; past = λ t c early left. left; kept = λ t c early left. left; now = λ t c after before left. absurd (omega (arith, after, before)) };
@@ -92,7 +94,7 @@ pub finished_untaken : (from : HostState) (course : Course) (ordered : Bool) (ta
     → (talk.ended ≡ false) → (talk.responses ≡ []) → Told from course ordered course.lines talk 0 old now (Ok tt) → Finished from course ordered now (Err status.NoMemory)
 finished_untaken from course ordered talk old now going none told = record {
   whole = tt;
-  ends = inr (ends_early from course ordered course.lines talk 0 now now.host (told.goes, over) refl);
+  ends = inr (ends_early from course ordered course.lines talk 0 now now.host (told.goes, over) refl (later_same now.host));
   holds = told.holds;
 }
   where

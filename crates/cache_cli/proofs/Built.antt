@@ -7,20 +7,20 @@ use Rattle.cache_model.specs.Commands.{HasLine}
 use Rattle.cache_model.specs.Plain.{Plain, plain_reply}
 use Rattle.cache_model.specs.Replies.{replies}
 use Rattle.cache_model.specs.Transcript.{IsReply}
-use Rattle.store_trait.specs.Meaning.{Row, StoreState}
-use Rattle.cache_session.specs.Turns.{IsBuilt, IsReplyOf, IsStepReply}
+use Rattle.cache_model.specs.Files.{Image}
+use Rattle.store_trait.specs.Meaning.{Row, StoreFacts, StoreState}
+use Rattle.cache_session.specs.Turns.{IsBuilt, IsReplyOf, IsStoreReply, figures_of}
 
 pub line_built : (command : Command) → HasLine command → IsBuilt command
 line_built CompactAll h = absurd h
 line_built (CompactFile number) h = absurd h
-line_built Stats h = absurd h
 line_built Export h = absurd h
 line_built command h = tt
 
 -- the reply of a turn is one that a talk may have
-pub reply_is : (command : Command) (plain : Plain) (reply : Reply) (s : StoreState) (a b : List Row)
-    → IsBuilt command → IsReplyOf (plain_reply [] plain command) reply → IsStepReply command s a b reply → IsReply command (plain_reply [] plain command) (replies reply)
-reply_is (Step kind) plain reply s a b built is step = (reply, (step.0, step.1), refl)
-reply_is (CompactFile number) plain reply s a b built is step = absurd built
-reply_is Stats plain reply s a b built is step = absurd built
-reply_is command plain reply s a b built is step = ap replies is
+pub reply_is : (command : Command) (plain : Plain) (reply : Reply) (f : StoreFacts) (s : StoreState) (files : Image) (a b : List Row)
+    → IsBuilt command → IsReplyOf (plain_reply [] plain command) reply → IsStoreReply command f s files a b reply → IsReply command (plain_reply [] plain command) (replies reply)
+reply_is (Step kind) plain reply f s files a b built is store = (reply, (store.0, store.1), refl)
+reply_is (CompactFile number) plain reply f s files a b built is store = absurd built
+reply_is Stats plain reply f s files a b built is store = (reply, (figures_of store.0, store.1), refl)
+reply_is command plain reply f s files a b built is store = ap replies is

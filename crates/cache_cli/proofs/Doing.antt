@@ -1,6 +1,6 @@
 -- What a turn of the session comes to in a run.
 use Rattle.std.proofs.Common.{◌≡◌, Bool, true, false, List, [], ◌∷◌, ℕ, Some, None, Ok, Err, refl, ◌∙◌, subst, arith}
-use Rattle.std.specs.Prelude.{◌||◌, ◌&&◌, not}
+use Rattle.std.specs.Prelude.{Result, ◌||◌, ◌&&◌, not}
 use Rattle.std.proofs.lemmas.List.{append-nil}
 use Rattle.cache_model.specs.declared.commands.Command.{Command}
 use Rattle.cache_model.specs.declared.faults.StoreFault.{StoreFault}
@@ -10,13 +10,14 @@ use Rattle.cache_model.specs.declared.replies.Status.{Status}
 use Rattle.cache_model.specs.Plain.{moment_after}
 use Rattle.cache_model.specs.Transcript.{may_be_refused}
 use Rattle.cache_disk.specs.State.{HostState}
-use Rattle.store_trait.specs.Keeping.{HoldsNow, SameStore}
+use Rattle.store_trait.specs.Keeping.{SameWhere, HoldsNow, SameStore}
 use Rattle.cache_session.specs.Turns.{Turns, Goes, IsBuilt}
 use Rattle.cache_cli.specs.Saying.{ended_by, IsNoDamage, is_memory}
-use Rattle.cache_cli.specs.Talk.{Course, Talk, done_in, plain_of, next_command, asked_in}
-use Rattle.cache_cli.specs.Run.{View, IsTalking, EndsBy, Does}
+use Rattle.cache_cli.specs.Talk.{Course, Talk, HasRead, done_in, plain_of, next_command, asked_in}
+use Rattle.cache_cli.specs.Run.{View, IsLater, IsTalking, EndsBy, Does}
 use Rattle.cache_cli.specs.Parts.{FollowsParts}
 use Rattle.cache_cli.proofs.Built.{reply_is}
+use Rattle.cache_cli.proofs.Later.{later_by}
 use Rattle.cache_cli.proofs.Moving.{command_moves, room_moves}
 use Rattle.cache_cli.proofs.Running.{command_holds, done_tells, kept_tells}
 use Rattle.cache_cli.proofs.Ending.{quiet_end, ends_early, ends_spent, ends_by_fault}
@@ -38,21 +39,32 @@ module _ (from : HostState) (course : Course) (ordered : Bool) (left : List (Lis
     (talking : IsTalking from course ordered left talk old)
     (hand : next_command left ≡ command ∷ [])
     (same : SameStore old.facts new.facts) where
+  -- a turn leads to a later host
+  later_turn : (result : Result Reply StoreFault) → Turns [] (plain_of talk) command old.facts new.facts spoilt old.store new.store old.host new.host result → IsLater old.host new.host
+  later_turn result turn = later_by old.host new.host (SameWhere old.facts.owns false) turn.did.others.images
+
   -- a command was done
-  pub does_ok : (reply : Reply) → IsBuilt command → FollowsParts course.pace.queue new.facts new.store → spoilt ≡ false → HoldsNow new.facts new.store new.host.turn → new.moment ≡ moment_after old.moment command
+  pub does_ok : (reply : Reply) → IsBuilt command → old.host.left old.host.turn old.host.files → FollowsParts course.pace.queue new.facts new.store → spoilt ≡ false → HoldsNow new.facts new.store new.host.turn → new.moment ≡ moment_after old.moment command
       → Turns [] (plain_of talk) command old.facts new.facts spoilt old.store new.store old.host new.host (Ok reply)
       → Does from course ordered left talk command old new (Ok (Some reply))
-  does_ok reply built follows unspoilt now moment turn = record {
+  does_ok reply built reads follows unspoilt now moment turn = record {
     goes = (
-      reply_is command (plain_of talk) reply old.store old.facts.parts new.facts.parts built turn.reply turn.step,
+      reply_is command (plain_of talk) reply old.facts old.store old.host.files old.facts.parts new.facts.parts built turn.reply turn.store,
       λ next said answered responses ended done is_talk moved says.
           done_tells from course ordered left talk old new command spoilt talking hand same reply next said answered responses ended turn unspoilt now moment follows done is_talk moved says,
-      command_moves course.pace.queue old.facts old.store talking.0.follows command (plain_of talk) turn.changes turn.order reply old.facts.parts new.facts.parts turn.did.parts turn.step,
+      command_moves course.pace.queue old.facts old.store talking.0.follows (HasRead course new.host) old.host.files read command (plain_of talk) turn.changes turn.order reply old.facts.parts new.facts.parts turn.did.parts turn.store,
     );
     silent = quiet_end old.host new.host turn.did.others.images.later turn.did.silent;
+    later = later_turn (Ok reply) turn;
     ends = tt;
     holds = command_holds from course ordered left talk old new command spoilt talking hand same (Ok reply) turn;
   }
+    where
+      -- the files as they read at the turn before
+      read : HasRead course new.host old.host.files
+      read =
+          let later = later_turn (Ok reply) turn in
+          (old.host.turn, omega (arith, talking.0.holds.since, talking.0.holds.others.images.later), later.later, later.kept old.host.turn old.host.files (omega arith) reads)
 
   -- a command was refused for want of memory
   pub does_refused : FollowsParts course.pace.queue new.facts new.store → spoilt ≡ false → may_be_refused command ≡ true → new.moment ≡ old.moment
@@ -72,6 +84,7 @@ module _ (from : HostState) (course : Course) (ordered : Bool) (left : List (Lis
           room_moves course.pace.queue old.facts old.store talking.0.follows old.facts.parts new.facts.parts kept.parts,
         );
         silent = quiet_end old.host new.host turn.did.others.images.later turn.did.silent;
+        later = later_turn (Err fault.Memory) turn;
         ends = tt;
         holds = holds;
       }
@@ -83,6 +96,7 @@ module _ (from : HostState) (course : Course) (ordered : Bool) (left : List (Lis
   does_err x ended ends turn = record {
     goes = tt;
     silent = tt;
+    later = tt;
     ends = ends;
     holds = command_holds from course ordered left talk old new command spoilt talking hand same (Err x) turn;
   }
@@ -93,7 +107,7 @@ module _ (from : HostState) (course : Course) (ordered : Bool) (left : List (Lis
       → Goes command old.facts new.facts old.moment new.moment broken (Err x)
       → EndsBy ended course new
   does_fault x ended broken is none turn goes = ends_by_fault course new x ended is none
-      (ends_early from course ordered left talk (asked_in course talk) old new.host talking (quiet_end old.host new.host turn.did.others.images.later turn.did.silent))
+      (ends_early from course ordered left talk (asked_in course talk) old new.host talking (quiet_end old.host new.host turn.did.others.images.later turn.did.silent) (later_turn (Err x) turn))
       (λ s same_fault. ends_spent from course ordered left talk old new command spoilt broken s talking hand
       (subst (λ (y : StoreFault). Turns [] (plain_of talk) command old.facts new.facts spoilt old.store new.store old.host new.host (Err y)) same_fault turn)
       (subst (λ (y : StoreFault). Goes command old.facts new.facts old.moment new.moment broken (Err y)) same_fault goes))

@@ -1,5 +1,5 @@
 -- How a run ends, by what its session told until then.
-use Rattle.std.proofs.Common.{◌≡◌, inl, inr, ⊎_elim, ℕ, ◌+◌, ◌≤◌, Bool, List, [], ◌∷◌, ◌++◌, length, Option, Some, Result, Ok, Err, refl, sym, ◌∙◌, ap, subst, arith, length-append}
+use Rattle.std.proofs.Common.{◌≡◌, inl, inr, ⊎_elim, ℕ, ◌+◌, ◌≤◌, Bool, false, List, [], ◌∷◌, ◌++◌, length, Option, Some, Result, Ok, Err, refl, sym, ◌∙◌, ap, subst, arith, length-append}
 use Rattle.std.specs.Prelude.{sum_by}
 use Rattle.std.proofs.lemmas.Bool.{cases_lt}
 use Rattle.std.proofs.lemmas.List.Sums.{sum_by_push}
@@ -10,17 +10,18 @@ use Rattle.cache_model.specs.declared.faults.StoreFault.TheVariants as fault
 use Rattle.cache_model.specs.declared.faults.Spent.{Spent}
 use Rattle.cache_model.specs.declared.replies.Status.{Status}
 use Rattle.cache_disk.specs.declared.host.HostFault.TheVariants.{Failed, Memory}
-use Rattle.cache_disk.specs.State.{HostState, Silent}
+use Rattle.cache_disk.specs.State.{HostState, SameFiles, Silent}
 use Rattle.store_trait.specs.Meaning.{Numbers}
 use Rattle.cache_model.specs.declared.files.FileName.{FileName}
-use Rattle.store_trait.specs.Keeping.{Carries, Leaves}
+use Rattle.store_trait.specs.Keeping.{SameWhere, Carries, Leaves}
 use Rattle.store_trait.specs.Calls.{IsNumbered}
 use Rattle.cache_session.specs.Turns.{files_by, Turns, Goes}
 use Rattle.cache_cli.specs.Fitting.{IsLog}
 use Rattle.cache_cli.specs.Saying.{SaidBy, ended_by, IsNoDamage}
 use Rattle.cache_cli.specs.Talk.{Course, Talk, done_in, plain_of, next_command, asked_in}
 use Rattle.cache_cli.specs.Ends.{IsWithin, Says, EndsEarly, EndsUnsaid}
-use Rattle.cache_cli.specs.Run.{View, IsTelling, IsPumping, IsTalking, IsInHand, IsLost, EndsSaying, Told, EndsAtSpent, EndsBy}
+use Rattle.cache_cli.specs.Run.{View, IsLater, IsTelling, IsPumping, IsTalking, IsInHand, IsLost, EndsSaying, Told, EndsAtSpent, EndsBy}
+use Rattle.cache_cli.proofs.Later.{later_by, talk_later}
 use Rattle.cache_cli.proofs.Logs.{log_snoc}
 use Rattle.cache_cli.proofs.Running.{said_tells, unsaid_holds, leaves_all}
 
@@ -30,9 +31,9 @@ within_of n first now is some = let ends = is.2.within some in (omega (arith, en
 
 -- what a session told
 pub says_of : (from : HostState) (course : Course) (ordered : Bool) (left : List (List ℕ)) (talk : Talk) (taken : ℕ) (old : View) (said : Option (List ℕ)) (to : HostState)
-    → IsTelling from course ordered left talk taken old said → to.said to.turn ≡ said → Says course to left talk
-says_of from course ordered left talk taken old said to telling same = record {
-  is_talk = telling.is_talk;
+    → IsTelling from course ordered left talk taken old said → to.said to.turn ≡ said → IsLater old.host to → Says course to left talk
+says_of from course ordered left talk taken old said to telling same later = record {
+  is_talk = talk_later course old.host to later talk left telling.is_talk;
   said = same ∙ telling.says;
   log = telling.standing.log;
   is_log = telling.standing.is_log;
@@ -41,22 +42,22 @@ says_of from course ordered left talk taken old said to telling same = record {
 
 -- a run that is cut short behind what its session told
 pub ends_early : (from : HostState) (course : Course) (ordered : Bool) (left : List (List ℕ)) (talk : Talk) (taken : ℕ) (old : View) (to : HostState)
-    → IsPumping from course ordered left talk taken old → to.said to.turn ≡ old.host.said old.host.turn → EndsEarly course to
-ends_early from course ordered left talk taken old to pumping same = record {
+    → IsPumping from course ordered left talk taken old → to.said to.turn ≡ old.host.said old.host.turn → IsLater old.host to → EndsEarly course to
+ends_early from course ordered left talk taken old to pumping same later = record {
   talk = talk;
   left = left;
-  says = says_of from course ordered left talk taken old (old.host.said old.host.turn) to pumping.0 same;
+  says = says_of from course ordered left talk taken old (old.host.said old.host.turn) to pumping.0 same later;
   going = pumping.1;
 }
 
 -- a run whose saying failed behind what its session told
 pub ends_unsaid : (from : HostState) (course : Course) (ordered : Bool) (left : List (List ℕ)) (talk : Talk) (old : View) (mid to : HostState)
-    → IsTalking from course ordered left talk old → mid.said mid.turn ≡ old.host.said old.host.turn → IsLost mid to → EndsUnsaid course to
-ends_unsaid from course ordered left talk old mid to talking same lost = record {
+    → IsTalking from course ordered left talk old → mid.said mid.turn ≡ old.host.said old.host.turn → IsLater old.host to → IsLost mid to → EndsUnsaid course to
+ends_unsaid from course ordered left talk old mid to talking same later lost = record {
   turn = mid.turn;
   talk = talk;
   left = left;
-  is_talk = talking.0.is_talk;
+  is_talk = talk_later course old.host to later talk left talking.0.is_talk;
   said = lost.said ∙ same ∙ talking.0.says;
   before = lost.later;
   lost = lost.lost;
@@ -64,10 +65,10 @@ ends_unsaid from course ordered left talk old mid to talking same lost = record 
 
 -- a say that ended the run
 pub ends_saying : (from : HostState) (course : Course) (ordered : Bool) (left : List (List ℕ)) (talk : Talk) (old now : View) (mid : HostState) (ended : Status)
-    → IsTalking from course ordered left talk old → mid.said mid.turn ≡ old.host.said old.host.turn → EndsSaying ended mid now.host → EndsBy ended course now
-ends_saying from course ordered left talk old now mid ended talking same = ⊎_elim
-    (λ lost. subst (λ (s : Status). EndsBy s course now) (sym lost.0) (ends_unsaid from course ordered left talk old mid now.host talking same lost.1))
-    (λ memory. subst (λ (s : Status). EndsBy s course now) (sym memory.0) (ends_early from course ordered left talk (asked_in course talk) old now.host talking (memory.1 ∙ same)))
+    → IsTalking from course ordered left talk old → mid.said mid.turn ≡ old.host.said old.host.turn → IsLater old.host now.host → EndsSaying ended mid now.host → EndsBy ended course now
+ends_saying from course ordered left talk old now mid ended talking same later = ⊎_elim
+    (λ lost. subst (λ (s : Status). EndsBy s course now) (sym lost.0) (ends_unsaid from course ordered left talk old mid now.host talking same later lost.1))
+    (λ memory. subst (λ (s : Status). EndsBy s course now) (sym memory.0) (ends_early from course ordered left talk (asked_in course talk) old now.host talking (memory.1 ∙ same) later))
 
 -- what a say that didn't say its bytes does
 saying : (bytes : List ℕ) (a b : HostState) (ended : Status) → SaidBy bytes a b (Err ended) → EndsSaying ended a b
@@ -81,6 +82,11 @@ saying bytes a b ended (Failed, said, is) = inl (
 )
 saying bytes a b ended (Memory, said, is) = inr (is, ap (λ (t : ℕ). b.said t) (said.failed.memory refl).turn ∙ (said.failed.memory refl).said a.turn (omega arith))
 
+-- a call that says leads to a later host
+said_later : (bytes : List ℕ) (a b : HostState) (result : Result (Unit {0}) Status) → SaidBy bytes a b result → IsLater a b
+said_later bytes a b (Ok done) said = later_by a b SameFiles said.ok.images
+said_later bytes a b (Err ended) said = later_by a b SameFiles said.1.failed.images
+
 -- an answer in hand was said, or not
 pub told : (from : HostState) (course : Course) (ordered : Bool) (left : List (List ℕ)) (talk : Talk) (taken : ℕ) (bytes : List ℕ) (old new : View) (result : Result (Unit {0}) Status)
     → IsInHand from course ordered left talk taken bytes old
@@ -91,10 +97,11 @@ pub told : (from : HostState) (course : Course) (ordered : Bool) (left : List (L
     → Told from course ordered left talk taken old new result
 told from course ordered left talk taken bytes old new (Ok done) hand same moment carries said =
     let telling = said_tells from course ordered left talk taken bytes old new hand same carries said moment in
-    record { goes = telling; ends = tt; holds = telling.holds }
+    record { goes = telling; ends = tt; later = said_later bytes old.host new.host (Ok done) said; holds = telling.holds }
 told from course ordered left talk taken bytes old new (Err ended) hand same moment carries said = record {
   goes = tt;
   ends = saying bytes old.host new.host ended said;
+  later = said_later bytes old.host new.host (Err ended) said;
   holds = unsaid_holds from course ordered left talk taken bytes old new hand same carries said.0 said.1;
 }
 
@@ -118,7 +125,8 @@ ends_spent from course ordered left talk old new command spoilt broken s talking
     record {
       talk = talk;
       left = left;
-      says = says_of from course ordered left talk (asked_in course talk) old (old.host.said old.host.turn) new.host so (quiet_end old.host new.host turn.did.others.images.later turn.did.silent);
+      says = says_of from course ordered left talk (asked_in course talk) old (old.host.said old.host.turn) new.host so (quiet_end old.host new.host turn.did.others.images.later turn.did.silent)
+          (later_by old.host new.host (SameWhere old.facts.owns false) turn.did.others.images);
       going = talking.1;
       log = log;
       is_log = subst (λ (l : List Command). IsLog talk.opening (done_in talk ++ l) log) (sym hand) is_log;

@@ -7,6 +7,7 @@ mod Contents
 mod Doing
 mod Ending
 mod Filling
+mod Later
 mod Lines
 mod Listing
 mod Logs

@@ -8,6 +8,7 @@ use Rattle.cache_model.specs.declared.commands.Command.{Command}
 use Rattle.cache_model.specs.declared.commands.Command.TheVariants.{Stop}
 use Rattle.cache_model.specs.declared.replies.Reply.{Reply}
 use Rattle.cache_model.specs.declared.replies.Status.{Status}
+use Rattle.cache_model.specs.Files.{Image}
 use Rattle.cache_model.specs.Plain.{Plain, plain_after_all}
 use Rattle.cache_model.specs.Lines.{LineMeaning, asks, refuses, meaning_of}
 use Rattle.cache_model.specs.Replies.{Response, Refusal, replies, refused, memory, reply_text, refusal_text, response_text, line_of}
@@ -17,10 +18,11 @@ use Rattle.cache_disk.specs.Calls.{and_then_said}
 use Rattle.store_trait.specs.Meaning.{Row}
 use Rattle.cache_cli.specs.Parts.{Parts, AnswerMoves, RowsMove}
 use Rattle.cache_cli.specs.Pump.{HasMoved}
-use Rattle.cache_cli.specs.Talk.{Course, Talk, done_in, plain_of, is_over, asked_in}
-use Rattle.cache_cli.specs.Run.{View, TellsMore, DoesBy, IsTelling, IsTalking, IsInHand, Told, AnswersBy, Answered, LongAnswered, Closed}
+use Rattle.cache_cli.specs.Talk.{Course, Talk, HasRead, done_in, plain_of, is_over, asked_in}
+use Rattle.cache_cli.specs.Run.{View, IsLater, TellsMore, DoesBy, IsTelling, IsTalking, IsInHand, Told, AnswersBy, Answered, LongAnswered, Closed}
 use Rattle.cache_cli.proofs.Answering.{with_answer, with_end, not_ended, none_ends, done-going, done-append, talk-append, says-append, done-end, talk-end, says-end}
 use Rattle.cache_cli.proofs.Pumping.{asked-append, has_answered, has_stayed}
+use Rattle.cache_cli.proofs.Later.{later_same, later_then, talk_later, moved_later}
 use Rattle.cache_cli.proofs.Running.{retell}
 use Rattle.cache_cli.proofs.Ending.{says_of, ends_saying}
 
@@ -42,18 +44,18 @@ none_done (asks command) refusal = refl
 none_done (refuses other) refusal = refl
 
 -- and leaves the rows
-left_so : (queue : ℕ) (plain : Plain) (meaning : LineMeaning) (refusal : Refusal) (a : Parts) → AnswerMoves queue plain meaning (refused refusal) a a
-left_so queue plain (asks command) refusal a = inl refl
-left_so queue plain (refuses other) refusal a = refl
+left_so : (read : Image → Type 0) (queue : ℕ) (plain : Plain) (meaning : LineMeaning) (refusal : Refusal) (a : Parts) → AnswerMoves read queue plain meaning (refused refusal) a a
+left_so read queue plain (asks command) refusal a = inl refl
+left_so read queue plain (refuses other) refusal a = refl
 
 -- the rows with one answer more
-moved-append : (course : Course) (left : List (List ℕ)) (talk : Talk) (going : is_over talk ≡ false) (line : List ℕ) (response : Response) (rows next : List Row)
-    → HasMoved course.pace talk.opening talk.answered talk.responses (asked_in course talk) rows
-    → RowsMove course.pace.queue (AnswerMoves course.pace.queue (plain_of talk) (meaning_of line) response) rows next
-    → HasMoved course.pace talk.opening (talk.answered ++ line ∷ []) (talk.responses ++ response ∷ []) (asked_in course talk) next
-moved-append course left talk going line response rows next moved moves =
-    has_answered course.pace talk.opening talk.answered talk.responses (asked_in course talk) rows next moved line response refl
-    (subst (λ (cs : List Command). RowsMove course.pace.queue (AnswerMoves course.pace.queue (plain_after_all talk.opening cs) (meaning_of line) response) rows next) (done-going course left talk going) moves)
+moved-append : (read : Image → Type 0) (course : Course) (left : List (List ℕ)) (talk : Talk) (going : is_over talk ≡ false) (line : List ℕ) (response : Response) (rows next : List Row)
+    → HasMoved read course.pace talk.opening talk.answered talk.responses (asked_in course talk) rows
+    → RowsMove course.pace.queue (AnswerMoves read course.pace.queue (plain_of talk) (meaning_of line) response) rows next
+    → HasMoved read course.pace talk.opening (talk.answered ++ line ∷ []) (talk.responses ++ response ∷ []) (asked_in course talk) next
+moved-append read course left talk going line response rows next moved moves =
+    has_answered read course.pace talk.opening talk.answered talk.responses (asked_in course talk) rows next moved line response refl
+    (subst (λ (cs : List Command). RowsMove course.pace.queue (AnswerMoves read course.pace.queue (plain_after_all talk.opening cs) (meaning_of line) response) rows next) (done-going course left talk going) moves)
 
 pub refusal_in_hand : (from : HostState) (course : Course) (ordered : Bool) (left : List (List ℕ)) (talk : Talk) (line : List ℕ) (refusal : Refusal) (now : View)
     → IsTalking from course ordered (line ∷ left) talk now
@@ -63,11 +65,12 @@ refusal_in_hand from course ordered left talk line refusal now talking answers =
     let response = refused refusal in
     let is = talking.0.is_talk in
     let rows = now.facts.parts in
-    let moved = moved-append course left talk talking.1 line response rows rows talking.0.parts (λ a at within. (a, at, within, left_so course.pace.queue (plain_of talk) (meaning_of line) refusal a)) in
+    let read = HasRead course now.host in
+    let moved = moved-append read course left talk talking.1 line response rows rows talking.0.parts (λ a at within. (a, at, within, left_so read course.pace.queue (plain_of talk) (meaning_of line) refusal a)) in
     retell from course ordered (line ∷ left) left talk (asked_in course talk) now (now.host.said now.host.turn) (and_then_said (now.host.said now.host.turn) (line_of (refusal_text refusal)))
     (talk.answered ++ line ∷ []) (talk.responses ++ response ∷ []) talk.ended talking.0
-    (done-append course left talk talking.1 line response is ∙ ap (λ (cs : List Command). done_in talk ++ cs) (none_done (meaning_of line) refusal) ∙ append-nil (done_in talk))
-    (talk-append course left talk talking.1 line response (asked_in course talk) rows is answers moved) moved
+    (done-append course left talk talking.1 read line response is ∙ ap (λ (cs : List Command). done_in talk ++ cs) (none_done (meaning_of line) refusal) ∙ append-nil (done_in talk))
+    (talk-append course left talk talking.1 read line response (asked_in course talk) rows is answers moved) moved
     (says-append course left talk talking.1 line response (now.host.said now.host.turn) talking.0.says)
 
 -- the answer of a turn is in hand
@@ -76,15 +79,18 @@ turned_in_hand : (from : HostState) (course : Course) (ordered : Bool) (left : L
     → Answers [] (plain_of talk) (meaning_of line) response
     → command_done (meaning_of line) response ≡ commands
     → now.host.said now.host.turn ≡ old.host.said old.host.turn
+    → IsLater old.host now.host
     → TellsMore from course ordered talk commands now
-    → RowsMove course.pace.queue (AnswerMoves course.pace.queue (plain_of talk) (meaning_of line) response) old.facts.parts now.facts.parts
+    → RowsMove course.pace.queue (AnswerMoves (HasRead course now.host) course.pace.queue (plain_of talk) (meaning_of line) response) old.facts.parts now.facts.parts
     → IsInHand from course ordered left (with_answer talk line response) (asked_in course talk) (line_of (response_text response)) now
-turned_in_hand from course ordered left talk line response commands old now talking answers done said more moves =
-    let is = talking.0.is_talk in
-    let moved = moved-append course left talk talking.1 line response old.facts.parts now.facts.parts talking.0.parts moves in
+turned_in_hand from course ordered left talk line response commands old now talking answers done said later more moves =
+    let read = HasRead course now.host in
+    let is = talk_later course old.host now.host later talk (line ∷ left) talking.0.is_talk in
+    let before = moved_later course old.host now.host later talk.opening talk.answered talk.responses (asked_in course talk) old.facts.parts talking.0.parts in
+    let moved = moved-append read course left talk talking.1 line response old.facts.parts now.facts.parts before moves in
     more left (and_then_said (now.host.said now.host.turn) (line_of (response_text response))) (talk.answered ++ line ∷ []) (talk.responses ++ response ∷ []) talk.ended
-    (done-append course left talk talking.1 line response is ∙ ap (λ (cs : List Command). done_in talk ++ cs) done)
-    (talk-append course left talk talking.1 line response (asked_in course talk) now.facts.parts is answers moved) moved
+    (done-append course left talk talking.1 read line response is ∙ ap (λ (cs : List Command). done_in talk ++ cs) done)
+    (talk-append course left talk talking.1 read line response (asked_in course talk) now.facts.parts is answers moved) moved
     (says-append course left talk talking.1 line response (now.host.said now.host.turn) (said ∙ talking.0.says))
 
 -- the reply of a command that was done is in hand
@@ -92,36 +98,41 @@ pub reply_in_hand : (from : HostState) (course : Course) (ordered : Bool) (left 
     → IsTalking from course ordered (line ∷ left) talk old
     → meaning_of line ≡ asks command
     → now.host.said now.host.turn ≡ old.host.said old.host.turn
+    → IsLater old.host now.host
     → DoesBy (Some reply) from course ordered (line ∷ left) talk command old now
     → IsInHand from course ordered left (with_answer talk line (replies reply)) (asked_in course talk) (line_of (reply_text reply)) now
-reply_in_hand from course ordered left talk line command reply old now talking asked said did =
+reply_in_hand from course ordered left talk line command reply old now talking asked said later did =
     turned_in_hand from course ordered left talk line (replies reply) (command ∷ []) old now talking
-    (subst (λ (m : LineMeaning). Answers [] (plain_of talk) m (replies reply)) (sym asked) (inl did.0)) (ap (λ (m : LineMeaning). command_done m (replies reply)) asked) said did.1
-    (subst (λ (m : LineMeaning). RowsMove course.pace.queue (AnswerMoves course.pace.queue (plain_of talk) m (replies reply)) old.facts.parts now.facts.parts) (sym asked) did.2)
+    (subst (λ (m : LineMeaning). Answers [] (plain_of talk) m (replies reply)) (sym asked) (inl did.0)) (ap (λ (m : LineMeaning). command_done m (replies reply)) asked) said later did.1
+    (subst (λ (m : LineMeaning). RowsMove course.pace.queue (AnswerMoves (HasRead course now.host) course.pace.queue (plain_of talk) m (replies reply)) old.facts.parts now.facts.parts) (sym asked) did.2)
 
 -- the refusal of a command for want of memory is in hand
 pub memory_in_hand : (from : HostState) (course : Course) (ordered : Bool) (left : List (List ℕ)) (talk : Talk) (line : List ℕ) (command : Command) (old now : View)
     → IsTalking from course ordered (line ∷ left) talk old
     → meaning_of line ≡ asks command
     → now.host.said now.host.turn ≡ old.host.said old.host.turn
+    → IsLater old.host now.host
     → DoesBy None from course ordered (line ∷ left) talk command old now
     → IsInHand from course ordered left (with_answer talk line (refused memory)) (asked_in course talk) (line_of (refusal_text memory)) now
-memory_in_hand from course ordered left talk line command old now talking asked said did =
+memory_in_hand from course ordered left talk line command old now talking asked said later did =
     turned_in_hand from course ordered left talk line (refused memory) [] old now talking
-    (subst (λ (m : LineMeaning). Answers [] (plain_of talk) m (refused memory)) (sym asked) (inr (refl, did.0))) (none_done (meaning_of line) memory) said did.1
-    (subst (λ (m : LineMeaning). RowsMove course.pace.queue (AnswerMoves course.pace.queue (plain_of talk) m (refused memory)) old.facts.parts now.facts.parts) (sym asked) did.2)
+    (subst (λ (m : LineMeaning). Answers [] (plain_of talk) m (refused memory)) (sym asked) (inr (refl, did.0))) (none_done (meaning_of line) memory) said later did.1
+    (subst (λ (m : LineMeaning). RowsMove course.pace.queue (AnswerMoves (HasRead course now.host) course.pace.queue (plain_of talk) m (refused memory)) old.facts.parts now.facts.parts) (sym asked) did.2)
 
 -- the answer to the end of the script is in hand
 pub end_in_hand : (from : HostState) (course : Course) (ordered : Bool) (talk : Talk) (reply : Reply) (old now : View)
     → IsTalking from course ordered [] talk old
     → now.host.said now.host.turn ≡ old.host.said old.host.turn
+    → IsLater old.host now.host
     → DoesBy (Some reply) from course ordered [] talk Stop old now
     → IsInHand from course ordered [] (with_end talk) (asked_in course talk) (line_of (reply_text reply)) now
-end_in_hand from course ordered talk reply old now talking said did =
+end_in_hand from course ordered talk reply old now talking said later did =
+    let read = HasRead course now.host in
+    let before = moved_later course old.host now.host later talk.opening talk.answered talk.responses (asked_in course talk) old.facts.parts talking.0.parts in
     did.1 [] (and_then_said (now.host.said now.host.turn) (line_of (reply_text reply))) talk.answered talk.responses true
     (done-end course [] talk talking.1)
-    (talk-end course [] talk talking.1 talking.0.is_talk refl)
-    (has_stayed course.pace talk.opening talk.answered talk.responses (asked_in course talk) old.facts.parts now.facts.parts talking.0.parts did.2)
+    (talk-end course [] talk talking.1 read (talk_later course old.host now.host later talk [] talking.0.is_talk) refl)
+    (has_stayed read course.pace talk.opening talk.answered talk.responses (asked_in course talk) old.facts.parts now.facts.parts before did.2)
     (ap (λ (r : Response). and_then_said (now.host.said now.host.turn) (line_of (response_text r))) did.0 ∙ says-end course [] talk talking.1 (now.host.said now.host.turn) (said ∙ talking.0.says))
 
 module _ (from : HostState) (course : Course) (ordered : Bool) (left : List (List ℕ)) (talk : Talk) (line : List ℕ) (response : Response) (going : is_over talk ≡ false) where
@@ -147,21 +158,21 @@ module _ (from : HostState) (course : Course) (ordered : Bool) (left : List (Lis
   said_by false now is telling = record {
     talk = with_answer talk line response;
     left = left;
-    says = says_of from course ordered left (with_answer talk line response) (asked_in course talk) now (now.host.said now.host.turn) now.host telling refl;
+    says = says_of from course ordered left (with_answer talk line response) (asked_in course talk) now (now.host.said now.host.turn) now.host telling refl (later_same now.host);
     over = over-append talk line response going ∙ negated_too (ends_talk response) is;
     answers = refl;
     ends = not_ended talk going;
   }
 
 module _ (from : HostState) (course : Course) (ordered : Bool) (left : List (List ℕ)) (talk : Talk) (line : List ℕ) (response : Response) (old mid now : View)
-    (talking : IsTalking from course ordered (line ∷ left) talk old) (same : mid.host.said mid.host.turn ≡ old.host.said old.host.turn) where
+    (talking : IsTalking from course ordered (line ∷ left) talk old) (same : mid.host.said mid.host.turn ≡ old.host.said old.host.turn) (later : IsLater old.host mid.host) where
   pub answered_ok : (more : Bool) → more ≡ not (ends_talk response) → Told from course ordered left (with_answer talk line response) (asked_in course talk) mid now (Ok tt)
       → Answered from course ordered left (talk.answered ++ line ∷ []) (asked_in course talk) now (Ok more)
   answered_ok more is told = record { goes = said_by from course ordered left talk line response talking.1 more now is told.goes; ends = tt; holds = told.holds }
 
   pub answered_err : (ended : Status) → Told from course ordered left (with_answer talk line response) (asked_in course talk) mid now (Err ended)
       → Answered from course ordered left (talk.answered ++ line ∷ []) (asked_in course talk) now (Err ended)
-  answered_err ended told = record { goes = tt; ends = ends_saying from course ordered (line ∷ left) talk old now mid.host ended talking same told.ends; holds = told.holds }
+  answered_err ended told = record { goes = tt; ends = ends_saying from course ordered (line ∷ left) talk old now mid.host ended talking same (later_then old.host mid.host now.host later told.later) told.ends; holds = told.holds }
 
 -- a line that is too long
 pub long_answered : (from : HostState) (course : Course) (ordered : Bool) (left : List (List ℕ)) (talk : Talk) (line : List ℕ) (refusal : Refusal) (old now : View) (result : Result (Unit {0}) Status)
@@ -175,7 +186,7 @@ long_answered from course ordered left talk line refusal old now (Ok done) talki
 }
 long_answered from course ordered left talk line refusal old now (Err ended) talking told = record {
   goes = tt;
-  ends = ends_saying from course ordered (line ∷ left) talk old now old.host ended talking refl told.ends;
+  ends = ends_saying from course ordered (line ∷ left) talk old now old.host ended talking refl told.later told.ends;
   holds = told.holds;
 }
 
@@ -183,13 +194,14 @@ long_answered from course ordered left talk line refusal old now (Err ended) tal
 pub closed : (from : HostState) (course : Course) (ordered : Bool) (talk : Talk) (old mid now : View) (result : Result (Unit {0}) Status)
     → IsTalking from course ordered [] talk old
     → mid.host.said mid.host.turn ≡ old.host.said old.host.turn
+    → IsLater old.host mid.host
     → Told from course ordered [] (with_end talk) (asked_in course talk) mid now result
     → Closed from course ordered talk now result
-closed from course ordered talk old mid now (Ok done) talking same told = record {
+closed from course ordered talk old mid now (Ok done) talking same later told = record {
   over = record {
     talk = with_end talk;
     left = [];
-    says = says_of from course ordered [] (with_end talk) (asked_in course talk) now (now.host.said now.host.turn) now.host told.goes refl;
+    says = says_of from course ordered [] (with_end talk) (asked_in course talk) now (now.host.said now.host.turn) now.host told.goes refl (later_same now.host);
     over = refl;
     answers = refl;
     ends = refl;
@@ -197,8 +209,8 @@ closed from course ordered talk old mid now (Ok done) talking same told = record
   ends = tt;
   holds = told.holds;
 }
-closed from course ordered talk old mid now (Err ended) talking same told = record {
+closed from course ordered talk old mid now (Err ended) talking same later told = record {
   over = tt;
-  ends = ends_saying from course ordered [] talk old now mid.host ended talking same told.ends;
+  ends = ends_saying from course ordered [] talk old now mid.host ended talking same (later_then old.host mid.host now.host later told.later) told.ends;
   holds = told.holds;
 }

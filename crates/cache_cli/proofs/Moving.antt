@@ -1,17 +1,18 @@
 -- A store that keeps the rules of parts moves them as the talk says.
 use Rattle.std.proofs.Common.{◌≡◌, inl, ⊎_elim, ℕ, List, [], ◌∷◌, refl, ◌∙◌}
 use Rattle.cache_model.specs.declared.commands.Command.{Command}
-use Rattle.cache_model.specs.declared.commands.Command.TheVariants.{Step, Sync, Stop}
+use Rattle.cache_model.specs.declared.commands.Command.TheVariants.{Step, Sync, Stop, Stats}
 use Rattle.cache_model.specs.declared.commands.StepKind.{StepKind}
 use Rattle.cache_model.specs.declared.commands.StepKind.TheVariants.{Index, Flush, Compact, Evict, Reap, Rotate}
 use Rattle.cache_model.specs.declared.entries.Change.{Change}
 use Rattle.cache_model.specs.declared.replies.Reply.{Reply}
 use Rattle.cache_model.specs.declared.replies.Turned.{Turned}
+use Rattle.cache_model.specs.Files.{Image}
 use Rattle.cache_model.specs.Plain.{Plain, effect_of}
 use Rattle.store_trait.specs.Meaning.{Row, StoreFacts, StoreState}
 use Rattle.store_trait.specs.Keeping.{Carries}
 use Rattle.cache_session.specs.Changing.{IsOrder}
-use Rattle.cache_session.specs.Turns.{MovesBy, PartsBy, IsRoom, IsStepReply, StepMoves, way_of}
+use Rattle.cache_session.specs.Turns.{MovesBy, PartsBy, IsRoom, IsStoreReply, StepMoves, way_of}
 use Rattle.cache_cli.specs.Parts.{ChangesMove, ActorMoves, RoomMoves, CommandMoves, RowsMove, FollowsParts}
 
 -- rows that stay are those of the same parts
@@ -36,15 +37,18 @@ module _ (queue : ℕ) (f : StoreFacts) (s : StoreState) (follows : FollowsParts
   actor_moves Compact turned rows next moves = follows.steps Compact turned rows next moves
   actor_moves Rotate turned rows next moves = follows.steps Rotate turned rows next moves
 
-  -- a command that was done
-  pub command_moves : (command : Command) (plain : Plain) (changes : List Change) → IsOrder (effect_of plain command) changes → (reply : Reply) (rows next : List Row)
-      → PartsBy (way_of command) f changes rows next → IsStepReply command s rows next reply → RowsMove queue (CommandMoves queue plain command reply) rows next
-  command_moves (Step kind) plain changes order reply rows next parts step = λ a is within.
-      let moved = actor_moves kind step.0 rows next step.2 a is within in
-      (moved.0, moved.1, moved.2, (step.0, step.1, moved.3))
-  command_moves Sync plain changes order reply rows next parts step = follows.empties rows next parts
-  command_moves Stop plain changes order reply rows next parts step = follows.empties rows next parts
-  command_moves command plain changes order reply rows next parts step = λ a is within.
+  -- a command that was done, where the files read so
+  pub command_moves : (read : Image → Type 0) (files : Image) → read files → (command : Command) (plain : Plain) (changes : List Change) → IsOrder (effect_of plain command) changes → (reply : Reply) (rows next : List Row)
+      → PartsBy (way_of command) f changes rows next → IsStoreReply command f s files rows next reply → RowsMove queue (CommandMoves read queue plain command reply) rows next
+  command_moves read files now (Step kind) plain changes order reply rows next parts store = λ a is within.
+      let moved = actor_moves kind store.0 rows next store.2 a is within in
+      (moved.0, moved.1, moved.2, (store.0, store.1, moved.3))
+  command_moves read files now Stats plain changes order reply rows next parts store = λ a is within.
+      let moved = follows.counts files store.0 rows next store.2 a is within in
+      (moved.0, moved.1, moved.2, record { files = files; is_read = now; figures = store.0; reply = store.1; counts = moved.3 })
+  command_moves read files now Sync plain changes order reply rows next parts store = follows.empties rows next parts
+  command_moves read files now Stop plain changes order reply rows next parts store = follows.empties rows next parts
+  command_moves read files now command plain changes order reply rows next parts store = λ a is within.
       let moved = changes_move changes rows next parts a is within in
       (moved.0, moved.1, moved.2, (changes, order, moved.3))
 
@@ -58,5 +62,6 @@ module _ (queue : ℕ) (f : StoreFacts) (s : StoreState) (follows : FollowsParts
     moves = follows.moves;
     empties = follows.empties;
     room = follows.room;
+    counts = follows.counts;
     steps = λ kind turned rows next steps. follows.steps kind turned rows next ((carries.steps kind turned rows next).0 steps);
   }

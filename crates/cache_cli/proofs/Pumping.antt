@@ -2,6 +2,7 @@
 use Rattle.std.proofs.Common.{◌≡◌, ℕ, zero, suc, ◌+◌, ◌≤◌, List, [], ◌∷◌, ◌++◌, refl, sym, ◌∙◌, ap, subst, arith}
 use Rattle.std.proofs.lemmas.List.Sums.{sum_by-cons, sum_by_push}
 use Rattle.cache_model.specs.declared.replies.Turned.{Turned}
+use Rattle.cache_model.specs.Files.{Image}
 use Rattle.cache_model.specs.Plain.{Plain, plain_after_all}
 use Rattle.cache_model.specs.Lines.{meaning_of}
 use Rattle.cache_model.specs.Replies.{Response}
@@ -17,36 +18,36 @@ pub asked-append : (pump : ℕ) (responses : List Response) (response : Response
 asked-append pump responses response = sum_by_push (steps_behind pump) responses response
 
 -- one background step more
-through_step : (pace : Pace) (taken due : ℕ) (plain : Plain) (lines : List (List ℕ)) (responses : List Response) (a : Parts) (all : ℕ) (b c : Parts) (turned : Turned)
-    → PartsThrough pace taken due plain lines responses a all b
+through_step : (read : Image → Type 0) (pace : Pace) (taken due : ℕ) (plain : Plain) (lines : List (List ℕ)) (responses : List Response) (a : Parts) (all : ℕ) (b c : Parts) (turned : Turned)
+    → PartsThrough read pace taken due plain lines responses a all b
     → suc all ≤ taken + due + steps_asked pace.pump responses
     → ActorMoves (background_step all) turned b c
-    → PartsThrough pace taken due plain lines responses a (suc all) c
-through_step pace taken due plain [] [] a all b c turned is room moves =
+    → PartsThrough read pace taken due plain lines responses a (suc all) c
+through_step read pace taken due plain [] [] a all b c turned is room moves =
     (suc is.0, omega (arith, room, is.2), omega (arith, is.2), (b, turned, is.3, subst (λ (n : ℕ). ActorMoves (background_step n) turned b c) is.2 moves))
-through_step pace taken due plain [] (r ∷ responses) a all b c turned is room moves = absurd is
-through_step pace taken due plain (l ∷ lines) [] a all b c turned is room moves = absurd is
-through_step pace taken due plain (l ∷ lines) (r ∷ responses) a all b c turned is room moves = (
+through_step read pace taken due plain [] (r ∷ responses) a all b c turned is room moves = absurd is
+through_step read pace taken due plain (l ∷ lines) [] a all b c turned is room moves = absurd is
+through_step read pace taken due plain (l ∷ lines) (r ∷ responses) a all b c turned is room moves = (
   is.0,
   is.1,
   is.2,
   is.3,
-  through_step pace (taken + due) (steps_behind pace.pump r) (after_answer plain (meaning_of l) r) lines responses is.1 all b c turned is.4
+  through_step read pace (taken + due) (steps_behind pace.pump r) (after_answer plain (meaning_of l) r) lines responses is.1 all b c turned is.4
       (omega (arith, room, sum_by-cons (steps_behind pace.pump) r responses)) moves,
 )
 
 -- one answer more
-through_answer : (pace : Pace) (taken due : ℕ) (plain : Plain) (lines : List (List ℕ)) (responses : List Response) (line : List ℕ) (response : Response) (a : Parts) (all : ℕ) (b c : Parts)
-    → PartsThrough pace taken due plain lines responses a all b
+through_answer : (read : Image → Type 0) (pace : Pace) (taken due : ℕ) (plain : Plain) (lines : List (List ℕ)) (responses : List Response) (line : List ℕ) (response : Response) (a : Parts) (all : ℕ) (b c : Parts)
+    → PartsThrough read pace taken due plain lines responses a all b
     → all ≡ taken + due + steps_asked pace.pump responses
-    → AnswerMoves pace.queue (plain_after_all plain (commands_done lines responses)) (meaning_of line) response b c
-    → PartsThrough pace taken due plain (lines ++ line ∷ []) (responses ++ response ∷ []) a all c
-through_answer pace taken due plain [] [] line response a all b c is whole moves =
+    → AnswerMoves read pace.queue (plain_after_all plain (commands_done lines responses)) (meaning_of line) response b c
+    → PartsThrough read pace taken due plain (lines ++ line ∷ []) (responses ++ response ∷ []) a all c
+through_answer read pace taken due plain [] [] line response a all b c is whole moves =
     let count : is.0 ≡ due = omega (arith, whole, is.2) in
     (b, c, subst (λ (n : ℕ). StepsMove taken n a b) count is.3, moves, (0, omega arith, omega (arith, whole), refl))
-through_answer pace taken due plain [] (r ∷ responses) line response a all b c is whole moves = absurd is
-through_answer pace taken due plain (l ∷ lines) [] line response a all b c is whole moves = absurd is
-through_answer pace taken due plain (l ∷ lines) (r ∷ responses) line response a all b c is whole moves =
+through_answer read pace taken due plain [] (r ∷ responses) line response a all b c is whole moves = absurd is
+through_answer read pace taken due plain (l ∷ lines) [] line response a all b c is whole moves = absurd is
+through_answer read pace taken due plain (l ∷ lines) (r ∷ responses) line response a all b c is whole moves =
     let next = after_answer plain (meaning_of l) r in
     let same : plain_after_all plain (command_done (meaning_of l) r ++ commands_done lines responses) ≡ plain_after_all next (commands_done lines responses) =
     plain_after_all-append plain (command_done (meaning_of l) r) (commands_done lines responses) ∙ ap (λ (p : Plain). plain_after_all p (commands_done lines responses)) (sym (after-answer plain (meaning_of l) r)) in (
@@ -54,47 +55,47 @@ through_answer pace taken due plain (l ∷ lines) (r ∷ responses) line respons
       is.1,
       is.2,
       is.3,
-      through_answer pace (taken + due) (steps_behind pace.pump r) next lines responses line response is.1 all b c is.4
+      through_answer read pace (taken + due) (steps_behind pace.pump r) next lines responses line response is.1 all b c is.4
           (omega (arith, whole, sum_by-cons (steps_behind pace.pump) r responses))
-          (subst (λ (p : Plain). AnswerMoves pace.queue p (meaning_of line) response b c) same moves),
+          (subst (λ (p : Plain). AnswerMoves read pace.queue p (meaning_of line) response b c) same moves),
     )
 
-module _ (pace : Pace) (plain : Plain) (lines : List (List ℕ)) (responses : List Response) (taken : ℕ) (rows next : List Row)
-    (moved : HasMoved pace plain lines responses taken rows) where
+module _ (read : Image → Type 0) (pace : Pace) (plain : Plain) (lines : List (List ℕ)) (responses : List Response) (taken : ℕ) (rows next : List Row)
+    (moved : HasMoved read pace plain lines responses taken rows) where
   -- the rows after one background step more
   pub has_stepped : (turned : Turned) → suc taken ≤ steps_asked pace.pump responses → RowsMove pace.queue (ActorMoves (background_step taken) turned) rows next
-      → HasMoved pace plain lines responses (suc taken) next
+      → HasMoved read pace plain lines responses (suc taken) next
   has_stepped turned room moves =
       let after = moves moved.parts moved.is_rows moved.within in
       record {
         parts = after.0;
         is_rows = after.1;
         within = after.2;
-        moved = through_step pace 0 0 plain lines responses no_parts taken moved.parts after.0 turned moved.moved (omega (arith, room)) after.3;
+        moved = through_step read pace 0 0 plain lines responses no_parts taken moved.parts after.0 turned moved.moved (omega (arith, room)) after.3;
       }
 
   -- the rows after one answer more
   pub has_answered : (line : List ℕ) (response : Response) → taken ≡ steps_asked pace.pump responses
-      → RowsMove pace.queue (AnswerMoves pace.queue (plain_after_all plain (commands_done lines responses)) (meaning_of line) response) rows next
-      → HasMoved pace plain (lines ++ line ∷ []) (responses ++ response ∷ []) taken next
+      → RowsMove pace.queue (AnswerMoves read pace.queue (plain_after_all plain (commands_done lines responses)) (meaning_of line) response) rows next
+      → HasMoved read pace plain (lines ++ line ∷ []) (responses ++ response ∷ []) taken next
   has_answered line response whole moves =
       let after = moves moved.parts moved.is_rows moved.within in
       record {
         parts = after.0;
         is_rows = after.1;
         within = after.2;
-        moved = through_answer pace 0 0 plain lines responses line response no_parts taken moved.parts after.0 moved.moved (omega (arith, whole)) after.3;
+        moved = through_answer read pace 0 0 plain lines responses line response no_parts taken moved.parts after.0 moved.moved (omega (arith, whole)) after.3;
       }
 
   -- rows that stay
-  pub has_stayed : RowsMove pace.queue (λ a b. b ≡ a) rows next → HasMoved pace plain lines responses taken next
+  pub has_stayed : RowsMove pace.queue (λ a b. b ≡ a) rows next → HasMoved read pace plain lines responses taken next
   has_stayed moves =
       let after = moves moved.parts moved.is_rows moved.within in
       record {
         parts = after.0;
         is_rows = after.1;
         within = after.2;
-        moved = subst (λ (p : Parts). PartsThrough pace 0 0 plain lines responses no_parts taken p) (sym after.3) moved.moved;
+        moved = subst (λ (p : Parts). PartsThrough read pace 0 0 plain lines responses no_parts taken p) (sym after.3) moved.moved;
       }
 
 -- more background steps make no fewer files

@@ -25,8 +25,9 @@ use Rattle.cache_cli.specs.Fitting.{promised_of, IsLog}
 use Rattle.cache_cli.specs.Parts.{FollowsParts}
 use Rattle.cache_cli.specs.Pump.{HasMoved, files_by_steps}
 use Rattle.cache_cli.specs.Standing.{Standing}
-use Rattle.cache_cli.specs.Talk.{Course, Talk, IsTalk, done_in, plain_of, text_of, is_over, hand_of, next_command, asked_in}
-use Rattle.cache_cli.specs.Run.{View, with_words, TellsAt, HoldsSince, IsTelling, IsPumping, IsTalking, IsInHand}
+use Rattle.cache_cli.specs.Talk.{Course, Talk, HasRead, IsTalk, done_in, plain_of, text_of, is_over, hand_of, next_command, asked_in}
+use Rattle.cache_cli.specs.Run.{View, IsLater, with_words, TellsAt, HoldsSince, IsTelling, IsPumping, IsTalking, IsInHand}
+use Rattle.cache_cli.proofs.Later.{later_by, talk_later, moved_later}
 use Rattle.cache_cli.proofs.Logs.{log_snoc, log_on}
 use Rattle.cache_cli.proofs.Moving.{follows_later}
 use Rattle.cache_cli.proofs.Standing.{in_turn, in_turn_whole, to_prefix, to_cut, fit_more, fit_all_more, done_one, kept_one, carried}
@@ -37,14 +38,15 @@ quiet a b t after before silent =
     ⊎_elim (λ later. silent.since t later before) (λ early. let same : t ≡ a.turn = omega arith in subst (λ (n : ℕ). b.said n ≡ a.said a.turn) (sym same) (silent.stays a.turn (omega arith))) (cases_lt a.turn t)
 
 -- what a talk tells of a store it tells of one that may be left with no more
-tells_still : (course : Course) (ordered : Bool) (s u : StoreState) (t : ℕ) (said : List ℕ)
-    → ((key : List ℕ) (r : Reading) (mark : ℕ) → u.may t key r mark → s.may t key r mark)
-    → ((c : Content) (mark : ℕ) → u.whole t c mark → s.whole t c mark)
-    → TellsAt course ordered s t said → TellsAt course ordered u t said
-tells_still course ordered s u t said fewer fewer_whole tells = record {
+tells_still : (course : Course) (ordered : Bool) (old new : View) (t : ℕ) (said : List ℕ)
+    → ((key : List ℕ) (r : Reading) (mark : ℕ) → new.store.may t key r mark → old.store.may t key r mark)
+    → ((c : Content) (mark : ℕ) → new.store.whole t c mark → old.store.whole t c mark)
+    → IsLater old.host new.host
+    → TellsAt course ordered old t said → TellsAt course ordered new t said
+tells_still course ordered old new t said fewer fewer_whole later tells = record {
   talk = tells.talk;
   left = tells.left;
-  is_talk = tells.is_talk;
+  is_talk = talk_later course old.host new.host later tells.talk tells.left tells.is_talk;
   says = tells.says;
   fits = λ key r mark may. tells.fits key r mark (fewer key r mark may);
   cut = λ is c mark may. tells.cut is c mark (fewer_whole c mark may);
@@ -63,15 +65,18 @@ module _ (from : HostState) (course : Course) (ordered : Bool) (left : List (Lis
     (same : SameStore old.facts new.facts)
     (turn : Turns [] (plain_of talk) command old.facts new.facts spoilt old.store new.store old.host new.host result)
     (on : GoesOnTo course left talk (pumping.0.standing.log ++ turn.changes)) where
+  later_turn : IsLater old.host new.host
+  later_turn = later_by old.host new.host (SameWhere old.facts.owns false) turn.did.others.images
+
   abbrev log_then : List Change
   log_then = pumping.0.standing.log ++ turn.changes
 
   -- within the turn everything fits the talk with the command in hand
-  tells_within : (t : ℕ) (said : List ℕ) → old.host.turn ≤ t → t ≤ new.host.turn → new.host.said t ≡ Some said → TellsAt course ordered new.store t said
+  tells_within : (t : ℕ) (said : List ℕ) → old.host.turn ≤ t → t ≤ new.host.turn → new.host.said t ≡ Some said → TellsAt course ordered new t said
   tells_within t said late to is = record {
     talk = talk;
     left = left;
-    is_talk = pumping.0.is_talk;
+    is_talk = talk_later course old.host new.host later_turn talk left pumping.0.is_talk;
     says = sym is ∙ quiet old.host new.host t late to turn.did.silent ∙ pumping.0.says;
     fits = λ key r mark may. to_prefix course.synced talk.opening (done_in talk) (hand_of (is_over talk) left) (log_then ++ on.0) pumping.0.base key r mark pumping.0.opening on.1
         (fit_more (promised_of course.synced talk.opening (done_in talk)) log_then on.0 pumping.0.base key r mark
@@ -84,11 +89,12 @@ module _ (from : HostState) (course : Course) (ordered : Bool) (left : List (Lis
   -- it holds through the turn, whatever it answers
   pub turn_holds : HoldsSince from course ordered new
   turn_holds = record {
+    since = pumping.0.holds.since;
     others = others_then old.facts new.facts from old.host new.host same pumping.0.holds.others turn.did.others;
     past = λ t early. turn.did.silent.stays t (omega (arith, early, pumping.0.holds.others.images.later)) ∙ pumping.0.holds.past t early;
     each = λ t said since to is.
         ⊎_elim
-        (λ early. tells_still course ordered old.store new.store t said (λ key r mark may. turn.did.keeps.past t key r mark early may) (λ c mark may. turn.did.keeps.past_whole t c mark early may)
+        (λ early. tells_still course ordered old new t said (λ key r mark may. turn.did.keeps.past t key r mark early may) (λ c mark may. turn.did.keeps.past_whole t c mark early may) later_turn
         (pumping.0.holds.each t said since (omega (arith, early)) (sym (turn.did.silent.stays t (omega (arith, early))) ∙ is)))
         (λ late. tells_within t said late to is)
         (cases_lt t old.host.turn);
@@ -141,8 +147,8 @@ numbered_by n m a b same is = subst (λ (k : ℕ). IsNumbered k a b) same is
 pub retell : (from : HostState) (course : Course) (ordered : Bool) (left left_next : List (List ℕ)) (talk : Talk) (taken : ℕ) (now : View) (said said_next : Option (List ℕ)) (answered : List (List ℕ)) (responses : List Response) (ended : Bool)
     → IsTelling from course ordered left talk taken now said
     → done_in (with_words talk answered responses ended) ≡ done_in talk
-    → IsTalk (with_words talk answered responses ended) course left_next
-    → HasMoved course.pace talk.opening answered responses taken now.facts.parts
+    → IsTalk (HasRead course now.host) (with_words talk answered responses ended) course left_next
+    → HasMoved (HasRead course now.host) course.pace talk.opening answered responses taken now.facts.parts
     → said_next ≡ and_then_said course.said (text_of (with_words talk answered responses ended))
     → IsTelling from course ordered left_next (with_words talk answered responses ended) taken now said_next
 retell from course ordered left left_next talk taken now said said_next answered responses ended telling done is_talk moved says =
@@ -190,8 +196,8 @@ module _ (from : HostState) (course : Course) (ordered : Bool) (left : List (Lis
       → new.moment ≡ moment_after old.moment command
       → FollowsParts course.pace.queue new.facts new.store
       → done_in (with_words talk answered responses ended) ≡ done_in talk ++ command ∷ []
-      → IsTalk (with_words talk answered responses ended) course left_next
-      → HasMoved course.pace talk.opening answered responses (asked_in course talk) new.facts.parts
+      → IsTalk (HasRead course new.host) (with_words talk answered responses ended) course left_next
+      → HasMoved (HasRead course new.host) course.pace talk.opening answered responses (asked_in course talk) new.facts.parts
       → said ≡ and_then_said course.said (text_of (with_words talk answered responses ended))
       → IsTelling from course ordered left_next (with_words talk answered responses ended) (asked_in course talk) new said
   done_tells reply left_next said answered responses ended turn unspoilt now moment follows done is_talk moved says =
@@ -236,8 +242,8 @@ pub kept_tells : (from : HostState) (course : Course) (ordered : Bool) (left lef
     → FollowsParts course.pace.queue new.facts new.store
     → HoldsSince from course ordered new
     → done_in (with_words talk answered responses ended) ≡ done_in talk
-    → IsTalk (with_words talk answered responses ended) course left_next
-    → HasMoved course.pace talk.opening answered responses taken_next new.facts.parts
+    → IsTalk (HasRead course new.host) (with_words talk answered responses ended) course left_next
+    → HasMoved (HasRead course new.host) course.pace talk.opening answered responses taken_next new.facts.parts
     → said ≡ and_then_said course.said (text_of (with_words talk answered responses ended))
     → IsTelling from course ordered left_next (with_words talk answered responses ended) taken_next new said
 kept_tells from course ordered left left_next talk taken taken_next old new said_old said answered responses ended files so same later keeps content numbers drawn made more stands sound moment follows holds done is_talk moved says =
@@ -291,11 +297,11 @@ module _ (from : HostState) (course : Course) (ordered : Bool) (left : List (Lis
   more = log_on talk.opening (done_in talk) (hand_of (is_over talk) left) hand.standing.log hand.standing.is_log
 
   -- with the answer said, everything fits the talk with it
-  tells_since : (t : ℕ) (said : List ℕ) → old.host.turn ≤ t → t ≤ new.host.turn → Some said ≡ and_then_said (old.host.said old.host.turn) bytes → TellsAt course ordered new.store t said
-  tells_since t said late to is = record {
+  tells_since : (t : ℕ) (said : List ℕ) → old.host.turn ≤ t → t ≤ new.host.turn → IsLater old.host new.host → Some said ≡ and_then_said (old.host.said old.host.turn) bytes → TellsAt course ordered new t said
+  tells_since t said late to later is = record {
     talk = talk;
     left = left;
-    is_talk = hand.is_talk;
+    is_talk = talk_later course old.host new.host later talk left hand.is_talk;
     says = is ∙ hand.says;
     fits = λ key r mark may. to_prefix course.synced talk.opening (done_in talk) (hand_of (is_over talk) left) (hand.standing.log ++ more.0) hand.base key r mark hand.opening more.1
         (fit_more (promised_of course.synced talk.opening (done_in talk)) hand.standing.log more.0 hand.base key r mark (hand.standing.each key r mark (carries.since t key r mark late to may)));
@@ -305,15 +311,16 @@ module _ (from : HostState) (course : Course) (ordered : Bool) (left : List (Lis
 
   -- what was said is what it was, or this
   said_holds : (now : Option (List ℕ)) → SameFiles old.host.files new.host.files → Moves old.host new.host SameFiles → GoesOn old.host.turn new.host.turn old.host.said new.host.said now
-      → ((t : ℕ) (said : List ℕ) → old.host.turn < t → t ≤ new.host.turn → now ≡ Some said → TellsAt course ordered new.store t said)
+      → ((t : ℕ) (said : List ℕ) → old.host.turn < t → t ≤ new.host.turn → now ≡ Some said → TellsAt course ordered new t said)
       → HoldsSince from course ordered new
   said_holds now files moves goes tells = record {
+    since = hand.holds.since;
     others = subst (λ (f : StoreFacts). Leaves f.owns false from new.host) (sym same) (leaves_then old.facts.owns false from old.host new.host hand.holds.others (leaves_all old.host new.host old.facts.owns false files moves));
     past = λ t early. goes.stays t (omega (arith, early, hand.holds.others.images.later)) ∙ hand.holds.past t early;
     each = λ t said since to is.
         ⊎_elim
         (λ late. tells t said late to (sym (goes.since t late to) ∙ is))
-        (λ early. tells_still course ordered old.store new.store t said (λ key r mark may. back t key r mark early to may) (λ c mark may. back_whole t c mark early to may)
+        (λ early. tells_still course ordered old new t said (λ key r mark may. back t key r mark early to may) (λ c mark may. back_whole t c mark early to may) (later_by old.host new.host SameFiles moves)
         (hand.holds.each t said since early (sym (goes.stays t early) ∙ is)))
         (cases_lt old.host.turn t);
     opens = λ t since to.
@@ -330,8 +337,10 @@ module _ (from : HostState) (course : Course) (ordered : Bool) (left : List (Lis
       let len : length at.0.log ≡ length hand.standing.log = ap (λ (l : List Change). length l) at.1 in
       let Stands : StoreFacts → Type 0 = λ (f : StoreFacts). (next : Standing talk.opening (done_in talk) course.synced ordered f hand.base new.store new.host.turn) × (length next.log ≡ length hand.standing.log) in
       let standing : Stands new.facts = subst Stands (sym same) (at.0, len) in
+      let later = later_by old.host new.host SameFiles said.ok.images in
+      let moved = moved_later course old.host new.host later talk.opening talk.answered talk.responses taken old.facts.parts hand.parts in
       record {
-        is_talk = hand.is_talk;
+        is_talk = talk_later course old.host new.host later talk left hand.is_talk;
         says = said.ok.said.since new.host.turn said.ok.ok (omega arith) ∙ hand.says;
         stands = carries.stands hand.stands;
         sound = carries.sound hand.sound;
@@ -340,12 +349,12 @@ module _ (from : HostState) (course : Course) (ordered : Bool) (left : List (Lis
         standing = standing.0;
         moment = hand.moment ∙ sym moment;
         follows = subst (λ (f : StoreFacts). FollowsParts course.pace.queue f new.store) (sym same) (follows_later course.pace.queue old.facts old.store hand.follows old.host.turn new.host.turn new.store carries);
-        parts = subst (λ (f : StoreFacts). HasMoved course.pace talk.opening talk.answered talk.responses taken f.parts) (sym same) hand.parts;
+        parts = subst (λ (f : StoreFacts). HasMoved (HasRead course new.host) course.pace talk.opening talk.answered talk.responses taken f.parts) (sym same) moved;
         numbers = numbered_by (length hand.standing.log) (length standing.0.log) (Some talk.first) new.facts.numbers (sym standing.1)
             (subst (λ (f : StoreFacts). IsNumbered (length hand.standing.log) (Some talk.first) f.numbers) (sym same) hand.numbers);
         drawn = omega (arith, hand.drawn, standing.1, ap_drawn);
         made = omega (arith, hand.made, standing.1, ap_made);
-        holds = said_holds (and_then_said (old.host.said old.host.turn) bytes) said.files said.ok.images said.ok.said (λ t text late to is. tells_since t text (omega (arith, late)) to (sym is));
+        holds = said_holds (and_then_said (old.host.said old.host.turn) bytes) said.files said.ok.images said.ok.said (λ t text late to is. tells_since t text (omega (arith, late)) to later (sym is));
       }
     where
       ap_drawn : new.facts.drawn ≡ old.facts.drawn

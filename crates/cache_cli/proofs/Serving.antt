@@ -32,6 +32,7 @@ use Rattle.store_trait.proofs.Runs.{leaves_then}
 use Rattle.cache_script.specs.Damages.{damage_line}
 use Rattle.data_file.specs.declared.appender.Appender.{Appender}
 use Rattle.soft_index.specs.declared.soft_index.SoftIndex.{SoftIndex}
+use Rattle.soft_index.specs.Compacting.{Run, row_with, CountsBy}
 use Rattle.soft_index.specs.Index.{IsRead, IsStarted, index_facts, index_means, log_of}
 use Rattle.rebuild.specs.Listing.{IsFirstDamageOf}
 use Rattle.soft_index.specs.Store.{AreInRange as IsInRangeOfStore, HasReading, MakesRoom, Queues, row_of, current_of, next_file, log_facts, owns_file, StepsBy}
@@ -75,37 +76,37 @@ pub read_said : (a b : HostState) → IsRead a b → b.said b.turn ≡ a.said a.
 read_said a b read = ⊎_elim (λ later. read.silent.since b.turn later (omega arith)) (λ early. let same : b.turn ≡ a.turn = omega (arith, early, read.images.later) in ap (λ (t : ℕ). b.said t) same ∙ read.silent.stays a.turn (omega arith)) (cases_lt a.turn b.turn)
 
 -- an image before anything is said
-untouched_at : (from : HostState) (course : Course) (said : Option (List ℕ)) (before image : Image)
-    → said ≡ from.said from.turn → from.left from.turn before → SameFiles before image → IsSound image → HoldsTogetherAtTurn from course said image
-untouched_at from course None before image silent left same sound = sound
-untouched_at from course (Some said) before image silent left same sound = (sound, inl (record { silent = silent; before = before; left = left; same = records_same before image same }))
+untouched_at : (from to : HostState) (course : Course) (said : Option (List ℕ)) (before image : Image)
+    → said ≡ from.said from.turn → from.left from.turn before → SameFiles before image → IsSound image → HoldsTogetherAtTurn from to course said image
+untouched_at from to course None before image silent left same sound = sound
+untouched_at from to course (Some said) before image silent left same sound = (sound, inl (record { silent = silent; before = before; left = left; same = records_same before image same }))
 
 -- it holds up to the turn at which the store was opened
-opened_at : (from mid : HostState) (course : Course) → IsRead from mid → AllLeft from (λ image. IsSound image) → (t : ℕ) (image : Image) (said : Option (List ℕ))
-    → from.turn ≤ t → t ≤ mid.turn → said ≡ mid.said t → mid.left t image → HoldsTogetherAtTurn from course said image
-opened_at from mid course read sound t image said after before is left =
+opened_at : (from mid to : HostState) (course : Course) → IsRead from mid → AllLeft from (λ image. IsSound image) → (t : ℕ) (image : Image) (said : Option (List ℕ))
+    → from.turn ≤ t → t ≤ mid.turn → said ≡ mid.said t → mid.left t image → HoldsTogetherAtTurn from to course said image
+opened_at from mid to course read sound t image said after before is left =
     ⊎_elim
     (λ later.
     let d = read.images.now t image later before left in
-    untouched_at from course said d.0 image (is ∙ read.silent.since t later before) d.1 d.2 (sound_same d.0 image d.2 (sound d.0 d.1)))
+    untouched_at from to course said d.0 image (is ∙ read.silent.since t later before) d.1 d.2 (sound_same d.0 image d.2 (sound d.0 d.1)))
     (λ early.
     let same : t ≡ from.turn = omega (arith, early, after) in
     let was : from.left from.turn image = subst (λ (n : ℕ). from.left n image) same (read.images.past t image early left) in
-    untouched_at from course said image image (is ∙ read.silent.stays t early ∙ ap (λ (n : ℕ). from.said n) same) was (λ name. refl) (sound image was))
+    untouched_at from to course said image image (is ∙ read.silent.stays t early ∙ ap (λ (n : ℕ). from.said n) same) was (λ name. refl) (sound image was))
     (cases_lt from.turn t)
 
 -- a run that read the files and did no more
 pub read_holds : (from mid : HostState) (course : Course) → IsRead from mid → HoldsTogetherFrom from mid course
 read_holds from mid course read = λ sound. record {
   later = read.images.later;
-  each = λ t image after before left. opened_at from mid course read sound t image (mid.said t) after before refl left;
+  each = λ t image after before left. opened_at from mid mid course read sound t image (mid.said t) after before refl left;
 }
 
 -- all keys of an image together fit the talk that was said by then
-image_fits : (course : Course) (store : StoreState) (t : ℕ) (said : List ℕ) (image : Image)
-    → ((c : Content) (mark : ℕ) → ((key : List ℕ) → HasReading (IsCounted image) key (read_in c key)) → IsMark image mark → store.whole t c mark)
-    → TellsAt course true store t said → FitsTalkTogether course said image
-image_fits course store t said image whole tells =
+image_fits : (course : Course) (now : View) (t : ℕ) (said : List ℕ) (image : Image)
+    → ((c : Content) (mark : ℕ) → ((key : List ℕ) → HasReading (IsCounted image) key (read_in c key)) → IsMark image mark → now.store.whole t c mark)
+    → TellsAt course true now t said → FitsTalkTogether course now.host said image
+image_fits course now t said image whole tells =
     let content = content_exists image in
     let mark = mark_exists image in
     let cut = tells.cut refl content.0 mark.0 (whole content.0 mark.0 content.1 mark.1) in
@@ -140,9 +141,9 @@ image_fits course store t said image whole tells =
     seen_is m (Some entry) = refl
 
 -- what holds of all keys together holds of each one
-each_at : (from : HostState) (course : Course) (said : Option (List ℕ)) (image : Image) → HoldsTogetherAtTurn from course said image → HoldsAtTurn from course said image
-each_at from course None image holds = holds
-each_at from course (Some said) image holds = (
+each_at : (from to : HostState) (course : Course) (said : Option (List ℕ)) (image : Image) → HoldsTogetherAtTurn from to course said image → HoldsAtTurn from to course said image
+each_at from to course None image holds = holds
+each_at from to course (Some said) image holds = (
   holds.0,
   ⊎_elim (λ untouched. inl untouched) (λ together. inr (record { talk = together.talk; left = together.left; is_talk = together.is_talk; says = together.says; fits = λ key. (together.fits key).0 })) holds.1,
 )
@@ -152,7 +153,7 @@ pub serves_by : (ended : Status) (from to : HostState) (course : Course) → End
 serves_by ended from to course ends others cut = record {
   ends = ends;
   others = others;
-  crash = λ sound. record { later = (cut sound).later; each = λ t image after before left. each_at from course (to.said t) image ((cut sound).each t image after before left) };
+  crash = λ sound. record { later = (cut sound).later; each = λ t image after before left. each_at from to course (to.said t) image ((cut sound).each t image after before left) };
   cut = cut;
 }
 
@@ -168,15 +169,15 @@ run_holds from mid course now read whole opens holds = λ sound. record {
   each = λ t image after before left.
       ⊎_elim
       (λ later. at_talk t image (now.host.said t) later before left refl)
-      (λ early. opened_at from mid course read sound t image (now.host.said t) after early (holds.past t early) (holds.others.images.past t image early left))
+      (λ early. opened_at from mid now.host course read sound t image (now.host.said t) after early (holds.past t early) (holds.others.images.past t image early left))
       (cases_lt mid.turn t);
 }
   where
-    at_talk : (t : ℕ) (image : Image) (said : Option (List ℕ)) → mid.turn < t → t ≤ now.host.turn → now.host.left t image → now.host.said t ≡ said → HoldsTogetherAtTurn from course said image
+    at_talk : (t : ℕ) (image : Image) (said : Option (List ℕ)) → mid.turn < t → t ≤ now.host.turn → now.host.left t image → now.host.said t ≡ said → HoldsTogetherAtTurn from now.host course said image
     at_talk t image None later before left is = opens t image (holds.opens t (omega (arith, later)) before) left
     at_talk t image (Some said) later before left is = (
       opens t image (holds.opens t (omega (arith, later)) before) left,
-      inr (image_fits course now.store t said image (λ c mark. whole t image c mark left) (holds.each t said later before is)),
+      inr (image_fits course now t said image (λ c mark. whole t image c mark left) (holds.each t said later before is)),
     )
 
 -- how the run ends
@@ -229,6 +230,10 @@ abbrev first_current : List Row → Option ℕ
 first_current [] = None
 first_current (row ∷ rows) = row.current
 
+abbrev first_run : List Row → Run
+first_run [] = None
+first_run (row ∷ rows) = row.run
+
 abbrev first_queued : List Row → ℕ
 first_queued [] = 0
 first_queued (row ∷ rows) = row.queued
@@ -275,12 +280,25 @@ store_steps queue Compact turned rows next steps = λ a is within. (a, steps.1 �
 store_steps queue Evict turned rows next steps = λ a is within. (a, steps.1 ∙ is, within, (steps.0, refl))
 store_steps queue Reap turned rows next steps = λ a is within. (a, steps.1 ∙ is, within, (steps.0, refl))
 
+store_counts : (queue : ℕ) (files : Image) (figures : ℕ × ℕ × ℕ) (rows next : List Row) → CountsBy files figures rows next → RowsMove queue (λ a b. CountsBy files figures (rows_of a) (rows_of b)) rows next
+store_counts queue files figures rows next counts = λ a is within.
+    let row = sym is ∙ counts.3 in
+    let current : a.current ≡ counts.1 = ap first_current row in
+    let run : None ≡ counts.2 = ap first_run row in
+    let after : next ≡ rows_of (record { queued = 0; current = a.current }) = counts.5 ∙ ap (λ (r : Run). row_with 0 counts.1 r) (sym run) ∙ ap (λ (c : Option ℕ). row_with 0 c None) (sym current) in (
+      record { queued = 0; current = a.current },
+      after,
+      omega arith,
+      (counts.0, counts.1, counts.2, row, counts.4, sym after ∙ counts.5),
+    )
+
 -- a store that was opened follows the rules of its settings
 pub started_follows : (files : Image) (settings : Settings) (facts : StoreFacts) (state : StoreState) (mark : ℕ) → IsStarted files settings facts state mark → FollowsParts (queue_of settings) facts state
 started_follows files settings facts state mark started = record {
   moves = λ change rows next moves. store_moves settings.queue rows next (started.moves change rows next moves);
   empties = λ rows next same. rows_stay settings.queue rows next (started.empties rows next same);
   room = λ rows next room. store_room settings.queue rows next (started.room rows next room);
+  counts = λ files figures rows next counts. store_counts settings.queue files figures rows next (started.counts files figures rows next counts);
   steps = λ kind turned rows next steps. store_steps settings.queue kind turned rows next (started.steps kind turned rows next steps);
 }
 
@@ -322,6 +340,7 @@ started_same a b settings facts state mark same started =
       empties = started.empties;
       room = started.room;
       steps = started.steps;
+      counts = started.counts;
     }
 
 pub begins : (settings : Settings) (from mid : HostState) (given moment mark : ℕ) (lines : List (List ℕ)) (facts : StoreFacts) (state : StoreState)
@@ -349,6 +368,7 @@ begins settings from mid given moment mark lines facts state opened sound ordere
         parts = (0, no_parts, (0, omega arith, omega arith, refl));
         whole = λ ended. absurd (false_true ended);
       };
+      since = opened.read.images.later;
       silent = read_said from mid opened.read;
       stands = started.stands;
       sound = sound;
@@ -520,5 +540,6 @@ module _ {F : Type 0} (g : Shared F (Bor (List ℕ) × Unit {0}) Bool) where
     moves = λ change rows after moves. follows.moves change rows after ((same.moves change rows after).0 moves);
     empties = λ rows after empties. follows.empties rows after ((same.empties rows after).0 empties);
     room = λ rows after room. follows.room rows after ((same.room rows after).0 room);
+    counts = λ files figures rows after counts. follows.counts files figures rows after ((same.counts files figures rows after).0 counts);
     steps = follows.steps;
   }

@@ -7,12 +7,13 @@ use Rattle.cache_model.specs.Lines.{lines_of, units_of, units_of_length}
 use Rattle.cache_disk.specs.State.{HostState}
 use Rattle.cache_script.specs.declared.line_reader.LineReader.{LineReader}
 use Rattle.cache_script.specs.LineReader.{unread, units_taken, TakesLine, Exhausts}
-use Rattle.cache_cli.specs.Talk.{Course, Talk, IsTalk, asked_in}
+use Rattle.cache_cli.specs.Talk.{Course, Talk, HasRead, IsTalk, asked_in}
 use Rattle.cache_cli.specs.Ends.{EndsTaken}
 use Rattle.cache_cli.specs.declared.pump.Pump.{Pump}
 use Rattle.cache_cli.specs.Run.{View, HoldsSince, EndsBy, IsTalking, AnswersBy, Answered, LongAnswered, Closed, Pumped}
 use Rattle.cache_cli.specs.Steps.{IsTalkingOn, HasAnswered, AnswersOn, AnsweredNext, IsPaced, Stepped, Ran}
 use Rattle.cache_cli.proofs.Ending.{says_of}
+use Rattle.cache_cli.proofs.Later.{later_same}
 
 -- the units of one line more
 units-append : (lines : List (List ℕ)) (line : List ℕ) → units_of (lines ++ line ∷ []) ≡ units_of lines + (1 + units_of_length (length line))
@@ -83,13 +84,13 @@ pub ends_taken : (from : HostState) (course : Course) (ordered : Bool) (talk : T
     → IsTalkingOn from course ordered talk now reader rest → Exhausts (unread reader rest) (units_taken reader)
     → EndsTaken course now.host
 ends_taken from course ordered talk now reader rest on exhausts =
-    let says = says_of from course ordered (lines_of (unread reader rest)) talk (asked_in course talk) now (now.host.said now.host.turn) now.host on.talking.0 refl in
+    let says = says_of from course ordered (lines_of (unread reader rest)) talk (asked_in course talk) now (now.host.said now.host.turn) now.host on.talking.0 refl (later_same now.host) in
     record {
       talk = talk;
       part = exhausts.line;
       rest = exhausts.rest;
       says = record {
-        is_talk = subst (λ (input : List ℕ). IsTalk talk course (lines_of input)) exhausts.front says.is_talk;
+        is_talk = subst (λ (input : List ℕ). IsTalk (HasRead course now.host) talk course (lines_of input)) exhausts.front says.is_talk;
         said = says.said;
         log = says.log;
         is_log = says.is_log;

@@ -14,7 +14,7 @@ use Rattle.cache_session.specs.Turns.{files_by}
 use Rattle.cache_cli.specs.Foreign.{IsForeign}
 use Rattle.cache_cli.specs.Fitting.{IsLog}
 use Rattle.cache_cli.specs.Pump.{files_by_steps}
-use Rattle.cache_cli.specs.Talk.{Course, Talk, IsTalk, text_of, done_in, is_over, next_command, asked_in}
+use Rattle.cache_cli.specs.Talk.{Course, Talk, HasRead, IsTalk, text_of, done_in, is_over, next_command, asked_in}
 
 -- where there are changes, their numbers and those of their files are within their ends
 abbrev pub IsWithin : Numbers → ℕ → Type 0
@@ -22,7 +22,7 @@ IsWithin first count = 1 ≤ count → (first.sequence + count ≤ 2 ^ 62) × (f
 
 -- What was said is a talk, whose changes have their numbers: these lines of the script are left.
 pub record Says (course : Course) (to : HostState) (left : List (List ℕ)) (talk : Talk) : Type 0 where
-  pub is_talk : IsTalk talk course left
+  pub is_talk : IsTalk (HasRead course to) talk course left
   pub said : to.said to.turn ≡ and_then_said course.said (text_of talk)
   pub log : List Change
   pub is_log : IsLog talk.opening (done_in talk) log
@@ -50,7 +50,7 @@ pub record EndsUnsaid (course : Course) (to : HostState) : Type 0 where
   pub turn : ℕ
   pub talk : Talk
   pub left : List (List ℕ)
-  pub is_talk : IsTalk talk course left
+  pub is_talk : IsTalk (HasRead course to) talk course left
   pub said : to.said turn ≡ and_then_said course.said (text_of talk)
   pub before : turn < to.turn
   pub lost : (t : ℕ) → turn < t → t ≤ to.turn → to.said t ≡ None

@@ -6,7 +6,7 @@ use Rattle.cache_disk.specs.State.{HostState}
 use Rattle.store_trait.specs.Meaning.{Numbers}
 use Rattle.store_trait.specs.Keeping.{IsOnly}
 use Rattle.cache_cli.specs.Fitting.{IsOpening}
-use Rattle.cache_cli.specs.Talk.{Course, Talk, IsTalk}
+use Rattle.cache_cli.specs.Talk.{Course, Talk, HasRead, IsTalk}
 use Rattle.cache_cli.specs.Ends.{EndsWhole}
 use Rattle.cache_cli.specs.Parts.{rows_of, no_parts, FollowsParts}
 use Rattle.cache_cli.specs.Run.{View, EndsSaying, EndsBy, HoldsSince}
@@ -20,7 +20,8 @@ first_talk opening first = record { opening = opening; first = first; answered =
 pub record Begins (course : Course) (ordered : Bool) (now : View) : Type 0 where
   pub opening : Plain
   pub first : Numbers
-  pub is_talk : IsTalk (first_talk opening first) course course.lines
+  pub is_talk : IsTalk (HasRead course now.host) (first_talk opening first) course course.lines
+  pub since : course.since ≤ now.host.turn
   pub silent : now.host.said now.host.turn ≡ course.said
   pub stands : now.store.stands
   pub sound : now.store.sound

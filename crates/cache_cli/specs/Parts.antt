@@ -1,7 +1,7 @@
 -- The parts of a store, and how the commands of a talk move them, with the actors that are built so far.
 use Rattle.std.specs.Prelude.{◌≡◌, ◌⊎◌, ℕ, ◌+◌, ◌-◌, ◌≤◌, min, List, [], ◌∷◌, Option, None, IsSome}
 use Rattle.cache_model.specs.declared.commands.Command.{Command}
-use Rattle.cache_model.specs.declared.commands.Command.TheVariants.{Step, Sync, Stop}
+use Rattle.cache_model.specs.declared.commands.Command.TheVariants.{Step, Sync, Stop, Stats}
 use Rattle.cache_model.specs.declared.commands.StepKind.{StepKind}
 use Rattle.cache_model.specs.declared.commands.StepKind.TheVariants.{Index, Rotate}
 use Rattle.cache_model.specs.declared.entries.Change.{Change}
@@ -9,13 +9,16 @@ use Rattle.cache_model.specs.declared.replies.Reply.{Reply}
 use Rattle.cache_model.specs.declared.replies.Reply.TheVariants as reply
 use Rattle.cache_model.specs.declared.replies.Turned.{Turned}
 use Rattle.cache_model.specs.declared.replies.Turned.TheVariants.{Done, Idle}
+use Rattle.cache_model.specs.Files.{Image}
 use Rattle.cache_model.specs.Plain.{Plain, effect_of}
 use Rattle.cache_model.specs.Lines.{LineMeaning, asks, refuses}
 use Rattle.cache_model.specs.Replies.{Response, replies, refused}
 use Rattle.cache_disk.specs.State.{HostState}
 use Rattle.store_trait.specs.Meaning.{Row, StoreFacts, StoreState}
 use Rattle.store_trait.specs.Keeping.{SameStore}
+use Rattle.soft_index.specs.Compacting.{CountsBy}
 use Rattle.cache_session.specs.Changing.{IsOrder}
+use Rattle.cache_session.specs.Turns.{figures_of}
 
 -- What commands and steps move of a store: how many requests to its index are queued, and the file that is written, or
 -- none.
@@ -62,19 +65,29 @@ ActorMoves kind turned a b = (turned ≡ Idle) × (b ≡ a)
 abbrev pub RoomMoves : ℕ → Parts → Parts → Type 0
 RoomMoves queue a b = (b ≡ a) ⊎ ((a.queued ≡ queue) × IndexingMoves Done a b)
 
--- How a command with its reply moves the parts: by its changes, in an order of its keys. A sync leaves them. The reply to
--- a step says what it did.
-abbrev pub CommandMoves : ℕ → Plain → Command → Reply → Parts → Parts → Type 0
-CommandMoves queue plain (Step kind) given a b = (turned : Turned) × (given ≡ reply.Turned turned) × ActorMoves kind turned a b
-CommandMoves queue plain Sync given a b = b ≡ a
-CommandMoves queue plain Stop given a b = b ≡ a
-CommandMoves queue plain command given a b = (changes : List Change) × IsOrder (effect_of plain command) changes × ChangesMove queue changes a b
+-- How `stats` moves them, and what it answers: the figures are those of a recount of files that read so. No change waits
+-- to be written, and nothing is held in memory.
+pub record CountMoves (read : Image → Type 0) (given : Reply) (a b : Parts) : Type 0 where
+  pub files : Image
+  pub is_read : read files
+  pub figures : ℕ × ℕ × ℕ
+  pub reply : given ≡ reply.Stats (figures_of figures)
+  pub counts : CountsBy files figures (rows_of a) (rows_of b)
+
+-- How a command with its reply moves the parts, where these files read so: by its changes, in an order of its keys. A sync
+-- leaves them. The reply to a step says what it did, and that to `stats` what a count of the files gave.
+abbrev pub CommandMoves : (Image → Type 0) → ℕ → Plain → Command → Reply → Parts → Parts → Type 0
+CommandMoves read queue plain (Step kind) given a b = (turned : Turned) × (given ≡ reply.Turned turned) × ActorMoves kind turned a b
+CommandMoves read queue plain Stats given a b = CountMoves read given a b
+CommandMoves read queue plain Sync given a b = b ≡ a
+CommandMoves read queue plain Stop given a b = b ≡ a
+CommandMoves read queue plain command given a b = (changes : List Change) × IsOrder (effect_of plain command) changes × ChangesMove queue changes a b
 
 -- how the answer to a line moves them: a line that is refused leaves them, or makes room where its command wants memory
-abbrev pub AnswerMoves : ℕ → Plain → LineMeaning → Response → Parts → Parts → Type 0
-AnswerMoves queue plain (refuses refusal) response a b = b ≡ a
-AnswerMoves queue plain (asks command) (refused refusal) a b = RoomMoves queue a b
-AnswerMoves queue plain (asks command) (replies given) a b = CommandMoves queue plain command given a b
+abbrev pub AnswerMoves : (Image → Type 0) → ℕ → Plain → LineMeaning → Response → Parts → Parts → Type 0
+AnswerMoves read queue plain (refuses refusal) response a b = b ≡ a
+AnswerMoves read queue plain (asks command) (refused refusal) a b = RoomMoves queue a b
+AnswerMoves read queue plain (asks command) (replies given) a b = CommandMoves read queue plain command given a b
 
 -- The rows of a store go on as its parts move: where they were those of parts within the queue's room, they are so again.
 abbrev pub RowsMove : ℕ → (Parts → Parts → Type 0) → List Row → List Row → Type 0
@@ -85,6 +98,7 @@ pub record FollowsParts (queue : ℕ) (facts : StoreFacts) (state : StoreState) 
   pub moves : (change : Change) (rows next : List Row) → facts.moves change rows next → RowsMove queue (ChangeMoves queue) rows next
   pub empties : (rows next : List Row) → facts.empties rows next → RowsMove queue (λ a b. b ≡ a) rows next
   pub room : (rows next : List Row) → facts.room rows next → RowsMove queue (RoomMoves queue) rows next
+  pub counts : (files : Image) (figures : ℕ × ℕ × ℕ) (rows next : List Row) → facts.counts files figures rows next → RowsMove queue (λ a b. CountsBy files figures (rows_of a) (rows_of b)) rows next
   pub steps : (kind : StepKind) (turned : Turned) (rows next : List Row) → state.steps kind turned rows next → RowsMove queue (ActorMoves kind turned) rows next
 
 -- What a store of a type keeps of these rules it keeps through its calls, which leave what no call changes.

@@ -3,6 +3,7 @@ use Rattle.std.specs.Prelude.{◌≡◌, ℕ, zero, suc, ◌+◌, ◌≤◌, Lis
 use Rattle.cache_model.specs.declared.commands.StepKind.{StepKind}
 use Rattle.cache_model.specs.declared.commands.StepKind.TheVariants.{Index, Flush, Compact, Reap}
 use Rattle.cache_model.specs.declared.replies.Turned.{Turned}
+use Rattle.cache_model.specs.Files.{Image}
 use Rattle.cache_model.specs.Plain.{Plain}
 use Rattle.cache_model.specs.Lines.{meaning_of}
 use Rattle.cache_model.specs.Replies.{Response}
@@ -11,8 +12,8 @@ use Rattle.store_trait.specs.Meaning.{Row}
 use Rattle.cache_session.specs.Turns.{files_of}
 use Rattle.cache_cli.specs.Parts.{Parts, rows_of, no_parts, ActorMoves, AnswerMoves}
 
--- How a store works beside its answers: how many requests its queue takes, 0 where it has no queue, and how many
--- background steps follow each answer.
+-- How a store works beside its answers: how many requests its queue takes, and how many background steps follow each
+-- answer.
 pub record Pace : Type 0 where
   pub queue : ℕ
   pub pump : ℕ
@@ -47,20 +48,21 @@ steps_behind pump response = if ends_talk response then 0 else pump
 abbrev pub steps_asked : ℕ → List Response → ℕ
 steps_asked pump responses = sum_by (steps_behind pump) responses
 
--- The answers to these lines move the parts, one after another. So many background steps were taken before, and so many
--- are due: these are taken before the next line, and behind it those that follow its answer are due. In the end so many
--- were taken in all; of those that are due then, some first ones.
-abbrev pub PartsThrough : Pace → ℕ → ℕ → Plain → List (List ℕ) → List Response → Parts → ℕ → Parts → Type 0
-PartsThrough pace taken due plain [] [] a all b = (count : ℕ) × (count ≤ due) × (all ≡ taken + count) × StepsMove taken count a b
-PartsThrough pace taken due plain [] (response ∷ responses) a all b = ⊥
-PartsThrough pace taken due plain (line ∷ lines) [] a all b = ⊥
-PartsThrough pace taken due plain (line ∷ lines) (response ∷ responses) a all b =
-    (c : Parts) × (d : Parts) × StepsMove taken due a c × AnswerMoves pace.queue plain (meaning_of line) response c d
-    × PartsThrough pace (taken + due) (steps_behind pace.pump response) (after_answer plain (meaning_of line) response) lines responses d all b
+-- The answers to these lines move the parts, one after another, where these files read so. So many background steps were
+-- taken before, and so many are due: these are taken before the next line, and behind it those that follow its answer are
+-- due. In the end so many were taken in all; of those that are due then, some first ones.
+abbrev pub PartsThrough : (Image → Type 0) → Pace → ℕ → ℕ → Plain → List (List ℕ) → List Response → Parts → ℕ → Parts → Type 0
+PartsThrough read pace taken due plain [] [] a all b = (count : ℕ) × (count ≤ due) × (all ≡ taken + count) × StepsMove taken count a b
+PartsThrough read pace taken due plain [] (response ∷ responses) a all b = ⊥
+PartsThrough read pace taken due plain (line ∷ lines) [] a all b = ⊥
+PartsThrough read pace taken due plain (line ∷ lines) (response ∷ responses) a all b =
+    (c : Parts) × (d : Parts) × StepsMove taken due a c × AnswerMoves read pace.queue plain (meaning_of line) response c d
+    × PartsThrough read pace (taken + due) (steps_behind pace.pump response) (after_answer plain (meaning_of line) response) lines responses d all b
 
--- The rows of a store are those of parts that these answers and so many background steps came to from the opening on.
-pub record HasMoved (pace : Pace) (plain : Plain) (lines : List (List ℕ)) (responses : List Response) (taken : ℕ) (rows : List Row) : Type 0 where
+-- The rows of a store are those of parts that these answers and so many background steps came to from the opening on,
+-- where these files read so.
+pub record HasMoved (read : Image → Type 0) (pace : Pace) (plain : Plain) (lines : List (List ℕ)) (responses : List Response) (taken : ℕ) (rows : List Row) : Type 0 where
   pub parts : Parts
   pub is_rows : rows ≡ rows_of parts
   pub within : parts.queued ≤ pace.queue
-  pub moved : PartsThrough pace 0 0 plain lines responses no_parts taken parts
+  pub moved : PartsThrough read pace 0 0 plain lines responses no_parts taken parts

@@ -9,6 +9,7 @@ use Rattle.cache_model.specs.declared.replies.Status.TheVariants as status
 use Rattle.cache_model.specs.declared.replies.Reply.{Reply}
 use Rattle.cache_model.specs.Replies.{Response, replies}
 use Rattle.cache_model.specs.Transcript.{IsReply, may_be_refused}
+use Rattle.cache_model.specs.Files.{Image}
 use Rattle.cache_model.specs.Plain.{Plain, plain_after, plain_reply}
 use Rattle.cache_disk.specs.State.{HostState}
 use Rattle.cache_disk.specs.Calls.{and_then_said}
@@ -22,7 +23,7 @@ use Rattle.cache_cli.specs.Fitting.{IsLog, IsOpening, ReadsPrefix, ReadsCut}
 use Rattle.cache_cli.specs.Parts.{RowsMove, RoomMoves, CommandMoves, FollowsParts}
 use Rattle.cache_cli.specs.Pump.{files_by_steps, HasMoved}
 use Rattle.cache_cli.specs.Standing.{Standing}
-use Rattle.cache_cli.specs.Talk.{Course, Talk, IsTalk, plain_of, done_in, text_of, is_over, hand_of, next_command, asked_in}
+use Rattle.cache_cli.specs.Talk.{Course, Talk, HasRead, IsTalk, plain_of, done_in, text_of, is_over, hand_of, next_command, asked_in}
 use Rattle.cache_cli.specs.Ends.{Says, EndsEarly, EndsUnsaid, EndsTaken}
 
 -- the same talk by other words of it: the same opening, and these lines and answers
@@ -43,28 +44,35 @@ view facts store host moment = record { facts = facts; store = store; host = hos
 abbrev pub view_by : {S : Type 0} → (S → StoreFacts) → (S → HostState → StoreState) → Session S → HostState → View
 view_by facts means session host = view (facts (store_of session)) (means (store_of session) host) host (moment_of session)
 
+-- On a later host what a crash might leave at a turn by then stays so.
+pub record IsLater (old new : HostState) : Type 0 where
+  pub later : old.turn ≤ new.turn
+  pub kept : (t : ℕ) (files : Image) → t ≤ old.turn → old.left t files → new.left t files
+
 -- What was said by a turn is a talk, and all that a crash may leave then fits it.
-pub record TellsAt (course : Course) (ordered : Bool) (store : StoreState) (t : ℕ) (said : List ℕ) : Type 0 where
+pub record TellsAt (course : Course) (ordered : Bool) (now : View) (t : ℕ) (said : List ℕ) : Type 0 where
   pub talk : Talk
   pub left : List (List ℕ)
-  pub is_talk : IsTalk talk course left
+  pub is_talk : IsTalk (HasRead course now.host) talk course left
   pub says : Some said ≡ and_then_said course.said (text_of talk)
-  pub fits : (key : List ℕ) (r : Reading) (mark : ℕ) → store.may t key r mark
+  pub fits : (key : List ℕ) (r : Reading) (mark : ℕ) → now.store.may t key r mark
       → ReadsPrefix course.synced talk.opening (done_in talk) (hand_of (is_over talk) left) key r mark
-  pub cut : ordered ≡ true → (c : Content) (mark : ℕ) → store.whole t c mark
+  pub cut : ordered ≡ true → (c : Content) (mark : ℕ) → now.store.whole t c mark
       → ReadsCut course.synced talk.opening (done_in talk) (hand_of (is_over talk) left) c mark
 
--- It holds at every turn since the store was opened, and each image opens. Other files than the store's were left alone.
+-- It holds at every turn since the store was opened, which was within the run, and each image opens. Other files than the
+-- store's were left alone.
 pub record HoldsSince (from : HostState) (course : Course) (ordered : Bool) (now : View) : Type 0 where
+  pub since : course.since ≤ from.turn
   pub others : Leaves now.facts.owns false from now.host
   pub past : (t : ℕ) → t ≤ from.turn → now.host.said t ≡ from.said t
-  pub each : (t : ℕ) (said : List ℕ) → from.turn < t → t ≤ now.host.turn → now.host.said t ≡ Some said → TellsAt course ordered now.store t said
+  pub each : (t : ℕ) (said : List ℕ) → from.turn < t → t ≤ now.host.turn → now.host.said t ≡ Some said → TellsAt course ordered now t said
   pub opens : (t : ℕ) → from.turn ≤ t → t ≤ now.host.turn → now.store.opens t
 
 -- A session tells a talk, which is what was said by then: its store stands for the plain map after the talk's commands, its
 -- numbers went on by their changes, and its parts moved by its answers and so many background steps.
 pub record IsTelling (from : HostState) (course : Course) (ordered : Bool) (left : List (List ℕ)) (talk : Talk) (taken : ℕ) (now : View) (said : Option (List ℕ)) : Type 0 where
-  pub is_talk : IsTalk talk course left
+  pub is_talk : IsTalk (HasRead course now.host) talk course left
   pub says : said ≡ and_then_said course.said (text_of talk)
   pub stands : now.store.stands
   pub sound : now.store.sound
@@ -73,7 +81,7 @@ pub record IsTelling (from : HostState) (course : Course) (ordered : Bool) (left
   pub standing : Standing talk.opening (done_in talk) course.synced ordered now.facts base now.store now.host.turn
   pub moment : (plain_of talk).moment ≡ now.moment
   pub follows : FollowsParts course.pace.queue now.facts now.store
-  pub parts : HasMoved course.pace talk.opening talk.answered talk.responses taken now.facts.parts
+  pub parts : HasMoved (HasRead course now.host) course.pace talk.opening talk.answered talk.responses taken now.facts.parts
   pub numbers : IsNumbered (length standing.log) (Some talk.first) now.facts.numbers
   pub drawn : now.facts.drawn ≤ talk.first.sequence + length standing.log
   pub made : now.facts.made ≤ talk.first.file + length standing.log + sum_by files_by (done_in talk) + files_by_steps taken
@@ -105,6 +113,7 @@ EndsSaying ended before now = ((ended ≡ status.SayFailed) × IsLost before now
 pub record Told (from : HostState) (course : Course) (ordered : Bool) (left : List (List ℕ)) (talk : Talk) (taken : ℕ) (before now : View) (result : Result (Unit {0}) Status) : Type 0 where
   pub goes : OnOk result (IsTelling from course ordered left talk taken now (now.host.said now.host.turn))
   pub ends : IfErr result (λ ended. EndsSaying ended before.host now.host)
+  pub later : IsLater before.host now.host
   pub holds : HoldsSince from course ordered now
 
 -- A number is at its end for a change of the command in hand, or for a background step: the numbers at the opening, the
@@ -139,8 +148,8 @@ abbrev pub TellsMore : HostState → Course → Bool → Talk → List Command �
 TellsMore from course ordered talk commands now =
     (left : List (List ℕ)) (said : Option (List ℕ)) (answered : List (List ℕ)) (responses : List Response) (ended : Bool)
     → done_in (with_words talk answered responses ended) ≡ done_in talk ++ commands
-    → IsTalk (with_words talk answered responses ended) course left
-    → HasMoved course.pace talk.opening answered responses (asked_in course talk) now.facts.parts
+    → IsTalk (HasRead course now.host) (with_words talk answered responses ended) course left
+    → HasMoved (HasRead course now.host) course.pace talk.opening answered responses (asked_in course talk) now.facts.parts
     → said ≡ and_then_said course.said (text_of (with_words talk answered responses ended))
     → IsTelling from course ordered left (with_words talk answered responses ended) (asked_in course talk) now said
 
@@ -148,7 +157,7 @@ TellsMore from course ordered talk commands now =
 abbrev pub DoesBy : Option Reply → HostState → Course → Bool → List (List ℕ) → Talk → Command → View → View → Type 0
 DoesBy (Some reply) from course ordered left talk command old now =
     IsReply command (plain_reply [] (plain_of talk) command) (replies reply) × TellsMore from course ordered talk (command ∷ []) now
-    × RowsMove course.pace.queue (CommandMoves course.pace.queue (plain_of talk) command reply) old.facts.parts now.facts.parts
+    × RowsMove course.pace.queue (CommandMoves (HasRead course now.host) course.pace.queue (plain_of talk) command reply) old.facts.parts now.facts.parts
 DoesBy None from course ordered left talk command old now =
     IsTrue (may_be_refused command) × TellsMore from course ordered talk [] now × RowsMove course.pace.queue (RoomMoves course.pace.queue) old.facts.parts now.facts.parts
 
@@ -156,6 +165,7 @@ DoesBy None from course ordered left talk command old now =
 pub record Does (from : HostState) (course : Course) (ordered : Bool) (left : List (List ℕ)) (talk : Talk) (command : Command) (old now : View) (result : Result (Option Reply) Status) : Type 0 where
   pub goes : IfOk result (λ reply. DoesBy reply from course ordered left talk command old now)
   pub silent : OnOk result (now.host.said now.host.turn ≡ old.host.said old.host.turn)
+  pub later : OnOk result (IsLater old.host now.host)
   pub ends : IfErr result (λ ended. EndsBy ended course now)
   pub holds : HoldsSince from course ordered now
 

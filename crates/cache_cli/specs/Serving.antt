@@ -23,6 +23,7 @@ queue_of settings = settings.queue
 -- a run by these settings that begins on a host, from a moment on, with these lines
 abbrev pub course_by : Settings → HostState → ℕ → List (List ℕ) → Course
 course_by settings from given lines = record {
+  since = from.turn;
   files = from.files;
   said = from.said from.turn;
   given = given;

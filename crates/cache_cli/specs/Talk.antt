@@ -20,9 +20,11 @@ use Rattle.cache_cli.specs.Fitting.{promised_of, IsLog}
 use Rattle.cache_cli.specs.Parts.{Parts, no_parts}
 use Rattle.cache_cli.specs.Pump.{Pace, steps_asked, PartsThrough}
 
--- What a run is about: the files as they read when it began, what was said by then, the moment that was given, the lines of
--- the script, whether each change is synced before it is answered, and how the store works beside its answers.
+-- What a run is about: the turn at which it began, the files as they read and what was said by then, the moment that was
+-- given, the lines of the script, whether each change is synced before it is answered, and how the store works beside its
+-- answers.
 pub record Course : Type 0 where
+  pub since : ℕ
   pub files : Image
   pub said : Option (List ℕ)
   pub given : ℕ
@@ -69,16 +71,20 @@ is_over talk = talk.ended || list_any ends_talk talk.responses
 abbrev pub asked_in : Course → Talk → ℕ
 asked_in course talk = steps_asked course.pace.pump talk.responses
 
+-- files may have read so within a run: a crash might have left them at one of its turns, up to that of this host
+abbrev pub HasRead : Course → HostState → Image → Type 0
+HasRead course to files = (t : ℕ) × (course.since ≤ t) × (t ≤ to.turn) × to.left t files
+
 -- A talk is one about a course: it opens with what the files say and goes on with their next numbers, and answers the
--- first lines as one plain map does, and steps by the parts of a store, which the answers and the background steps between
--- them move. These lines are left.
-pub record IsTalk (talk : Talk) (course : Course) (left : List (List ℕ)) : Type 0 where
+-- first lines as one plain map does, and those on the store itself by its parts, which the answers and the background
+-- steps between them move, and by files that read so. These lines are left.
+pub record IsTalk (read : Image → Type 0) (talk : Talk) (course : Course) (left : List (List ℕ)) : Type 0 where
   pub opens : Opens course.files course.given talk.opening
   pub first : IsNextSequence course.files talk.first.sequence
   pub file : IsNextFile course.files talk.first.file
   pub split : course.lines ≡ talk.answered ++ left
   pub answers : IsTranscript [] talk.opening talk.answered talk.responses
-  pub parts : (taken : ℕ) × (parts : Parts) × PartsThrough course.pace 0 0 talk.opening talk.answered talk.responses no_parts taken parts
+  pub parts : (taken : ℕ) × (parts : Parts) × PartsThrough read course.pace 0 0 talk.opening talk.answered talk.responses no_parts taken parts
   pub whole : talk.ended ≡ true → (left ≡ []) × (list_any ends_talk talk.responses ≡ false)
 
 -- the command that a line asks for, where it asks for one
@@ -98,20 +104,20 @@ hand_of false left = next_command left
 
 -- What was said is a talk, and every key of the image reads as after a prefix of its own changes by the commands that
 -- were done and the one in hand, which holds every change that an answer promised.
-pub record FitsTalk (course : Course) (said : List ℕ) (image : Image) : Type 0 where
+pub record FitsTalk (course : Course) (to : HostState) (said : List ℕ) (image : Image) : Type 0 where
   pub talk : Talk
   pub left : List (List ℕ)
-  pub is_talk : IsTalk talk course left
+  pub is_talk : IsTalk (HasRead course to) talk course left
   pub says : Some said ≡ and_then_said course.said (text_of talk)
   pub fits : (key : List ℕ) → FitsPrefix image talk.opening (done_in talk ++ hand_of (is_over talk) left) (promised_of course.synced talk.opening (done_in talk) key) key
 
 -- What was said is a talk, and all keys of the image together read as after the first so many of all changes by the
 -- commands that were done and the one in hand, in the order of the commands: each key as after those of them that are its
 -- own, which hold every change of it that an answer promised.
-pub record FitsTalkTogether (course : Course) (said : List ℕ) (image : Image) : Type 0 where
+pub record FitsTalkTogether (course : Course) (to : HostState) (said : List ℕ) (image : Image) : Type 0 where
   pub talk : Talk
   pub left : List (List ℕ)
-  pub is_talk : IsTalk talk course left
+  pub is_talk : IsTalk (HasRead course to) talk course left
   pub says : Some said ≡ and_then_said course.said (text_of talk)
   pub log : List Change
   pub is_log : IsLog talk.opening (done_in talk ++ hand_of (is_over talk) left) log
@@ -129,21 +135,21 @@ pub record IsUntouched (from : HostState) (said : Option (List ℕ)) (image : Im
 
 -- what holds of an image that a crash may leave at a turn by which this was said; nothing of its keys is said where
 -- saying failed
-abbrev pub HoldsAtTurn : HostState → Course → Option (List ℕ) → Image → Type 0
-HoldsAtTurn from course None image = IsSound image
-HoldsAtTurn from course (Some said) image = IsSound image × (IsUntouched from (Some said) image ⊎ FitsTalk course said image)
+abbrev pub HoldsAtTurn : HostState → HostState → Course → Option (List ℕ) → Image → Type 0
+HoldsAtTurn from to course None image = IsSound image
+HoldsAtTurn from to course (Some said) image = IsSound image × (IsUntouched from (Some said) image ⊎ FitsTalk course to said image)
 
 -- it holds at every turn of a run, from its first to its last
 pub record HoldsThroughout (from to : HostState) (course : Course) : Type 0 where
   pub later : from.turn ≤ to.turn
-  pub each : (t : ℕ) (image : Image) → from.turn ≤ t → t ≤ to.turn → to.left t image → HoldsAtTurn from course (to.said t) image
+  pub each : (t : ℕ) (image : Image) → from.turn ≤ t → t ≤ to.turn → to.left t image → HoldsAtTurn from to course (to.said t) image
 
 -- the same of all keys together
-abbrev pub HoldsTogetherAtTurn : HostState → Course → Option (List ℕ) → Image → Type 0
-HoldsTogetherAtTurn from course None image = IsSound image
-HoldsTogetherAtTurn from course (Some said) image = IsSound image × (IsUntouched from (Some said) image ⊎ FitsTalkTogether course said image)
+abbrev pub HoldsTogetherAtTurn : HostState → HostState → Course → Option (List ℕ) → Image → Type 0
+HoldsTogetherAtTurn from to course None image = IsSound image
+HoldsTogetherAtTurn from to course (Some said) image = IsSound image × (IsUntouched from (Some said) image ⊎ FitsTalkTogether course to said image)
 
 -- it holds of all keys together at every turn of a run, from its first to its last
 pub record HoldsTogether (from to : HostState) (course : Course) : Type 0 where
   pub later : from.turn ≤ to.turn
-  pub each : (t : ℕ) (image : Image) → from.turn ≤ t → t ≤ to.turn → to.left t image → HoldsTogetherAtTurn from course (to.said t) image
+  pub each : (t : ℕ) (image : Image) → from.turn ≤ t → t ≤ to.turn → to.left t image → HoldsTogetherAtTurn from to course (to.said t) image

@@ -22,8 +22,8 @@ pub fn runs_compose<H: Host>()
         → AllLeft (H.state next) (λ left. IsSound left) }
     ensures opens { (next : H) (given : ℕ) (image : Image) (plain : Plain)
         → SameFiles image (H.state next).files → Opens (H.state next).files given plain → Opens image given plain }
-    ensures reads { (next : H) (again : ℕ) (course : Course) (said : List ℕ) (image : Image) (plain : Plain)
-        → (fits : FitsTalk course said image)
+    ensures reads { (next to : H) (again : ℕ) (course : Course) (said : List ℕ) (image : Image) (plain : Plain)
+        → (fits : FitsTalk course (H.state to) said image)
         → SameFiles image (H.state next).files → Opens (H.state next).files again plain
         → (key : List ℕ) → ReadsOn course.synced fits.talk fits.left plain key }
 {}

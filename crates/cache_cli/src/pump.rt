@@ -14,7 +14,7 @@ use cache_disk::Host;
 use cache_model::{Status, StepKind};
 use cache_session::{Event, Session};
 use std::alloc::Global;
-use store_trait::Store;
+use store_trait::FileStore;
 
 /// The background steps behind each answer, in their repeated order, which goes on from one answer to the next.
 #[derive(Debug, Drop)]
@@ -51,7 +51,7 @@ impl Pump {
 }
 
 // Takes the next background step.
-fn take_step<H: Host, S: Store<H>>(
+fn take_step<H: Host, S: FileStore<H>>(
     alloc: Global,
     session: &mut Session<S>,
     pump: &mut Pump,
@@ -79,7 +79,7 @@ fn take_step<H: Host, S: Store<H>>(
 }
 
 /// Takes the background steps behind an answer.
-pub fn take_steps<H: Host, S: Store<H>>(
+pub fn take_steps<H: Host, S: FileStore<H>>(
     alloc: Global,
     session: &mut Session<S>,
     pump: &mut Pump,

@@ -20,7 +20,7 @@ use cache_model::{Command, Reply, Status, StoreFault};
 use cache_script::{LineFault, LineReader, ReadFault, Taken, read_line};
 use cache_session::{Event, Session};
 use std::alloc::Global;
-use store_trait::{Keyed, Store};
+use store_trait::{FileStore, Keyed};
 
 // Whether a command may be refused for want of memory: those that speak of the whole store never are.
 fn may_be_refused(command: &Command) -> bool
@@ -54,7 +54,7 @@ fn is_refusal<S: Keyed>(refusable: bool, session: &Session<S>, fault: &StoreFaul
 }
 
 // Does a command, and gives its reply; None where it is refused for want of memory.
-fn do_command<H: Host, S: Store<H>>(
+fn do_command<H: Host, S: FileStore<H>>(
     alloc: Global,
     session: &mut Session<S>,
     host: &mut H,
@@ -87,7 +87,7 @@ fn do_command<H: Host, S: Store<H>>(
 }
 
 // Does the command of a line, and answers it. False says that the talk is over.
-fn answer<H: Host, S: Store<H>>(
+fn answer<H: Host, S: FileStore<H>>(
     alloc: Global,
     session: &mut Session<S>,
     host: &mut H,
@@ -120,7 +120,7 @@ fn answer<H: Host, S: Store<H>>(
 }
 
 // Answers the end of the script, which counts as a line `stop`.
-fn answer_end<H: Host, S: Store<H>>(
+fn answer_end<H: Host, S: FileStore<H>>(
     alloc: Global,
     session: &mut Session<S>,
     host: &mut H,
@@ -141,7 +141,7 @@ fn answer_end<H: Host, S: Store<H>>(
 }
 
 // Answers one line, its end aside. False says that the talk is over.
-fn answer_line<H: Host, S: Store<H>>(
+fn answer_line<H: Host, S: FileStore<H>>(
     alloc: Global,
     session: &mut Session<S>,
     host: &mut H,
@@ -168,7 +168,7 @@ fn answer_line<H: Host, S: Store<H>>(
 }
 
 // Says that a line is too long.
-fn refuse_long<H: Host, S: Store<H>>(session: &Session<S>, host: &mut H) -> Result<(), Status>
+fn refuse_long<H: Host, S: FileStore<H>>(session: &Session<S>, host: &mut H) -> Result<(), Status>
     ensures stands { IsTrue H.tells → (S.means (store_of session.now) (H.state host.old)).stands → (S.means (store_of session.now) (H.state host.new)).stands }
     ensures answered { IsTrue H.tells → (from : H) (course : Course) (ordered : Bool) (raw : List ℕ) (left : List (List ℕ)) (talk : Talk)
         → IsTalking (H.state from) course ordered (raw ∷ left) talk (view_by S.facts S.means session.now (H.state host.old))
@@ -180,7 +180,7 @@ fn refuse_long<H: Host, S: Store<H>>(session: &Session<S>, host: &mut H) -> Resu
 }
 
 // Takes the next line and answers it. False says that the talk is over.
-fn answer_next<H: Host, I: Source, S: Store<H>>(
+fn answer_next<H: Host, I: Source, S: FileStore<H>>(
     alloc: Global,
     session: &mut Session<S>,
     reader: &mut LineReader,
@@ -215,7 +215,7 @@ fn answer_next<H: Host, I: Source, S: Store<H>>(
 }
 
 // Takes the next line, answers it, and takes the background steps behind the answer. False says that the talk is over.
-fn step_on<H: Host, I: Source, S: Store<H>>(
+fn step_on<H: Host, I: Source, S: FileStore<H>>(
     alloc: Global,
     session: &mut Session<S>,
     pump: &mut Pump,
@@ -247,7 +247,7 @@ fn step_on<H: Host, I: Source, S: Store<H>>(
 
 /// Answers the lines of a script in turn, to its end, or to a line that ends the talk. The background steps that follow
 /// each answer but the last go on with the next one.
-pub fn answer_script<H: Host, I: Source, S: Store<H>>(
+pub fn answer_script<H: Host, I: Source, S: FileStore<H>>(
     alloc: Global,
     session: &mut Session<S>,
     pump: &mut Pump,

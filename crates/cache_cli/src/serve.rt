@@ -33,7 +33,7 @@ use cache_script::{LineReader, opened_line};
 use cache_session::Session;
 use soft_index::SoftIndex;
 use std::alloc::Global;
-use store_trait::Store;
+use store_trait::FileStore;
 
 /// Runs the store on a script: the whole program, over any host and source. `words` are those behind the directory.
 ///
@@ -75,8 +75,8 @@ pub fn serve<H: Host, I: Source>(
     }
 }
 
-/// The same by settings that are handed in, whatever the settings file says: `file_size`, `sync_writes`, `hash_bits` and
-/// `pump` are in force. It never ends with the status Settings.
+/// The same by settings that are handed in, whatever the settings file says: `file_size`, `sync_writes`, `hash_bits`,
+/// `queue` and `pump` are in force. It never ends with the status Settings.
 ///
 /// Where changes aren't synced at once, only `sync` and `stop` promise them: a crash may leave a key as after any prefix
 /// of its changes from the last such answer on.
@@ -182,7 +182,7 @@ struct Ran<S> {
 
 // Runs a store that was opened on a script from a moment on, with so many background steps behind each answer, and gives
 // the session as it leaves it.
-fn run_store<H: Host, I: Source, S: Store<H>>(
+fn run_store<H: Host, I: Source, S: FileStore<H>>(
     alloc: Global,
     store: S,
     moment: u64,
@@ -205,7 +205,7 @@ fn run_store<H: Host, I: Source, S: Store<H>>(
 }
 
 // Says that the directory is open, and answers the script, with so many background steps behind each answer.
-fn answer_from_opening<H: Host, I: Source, S: Store<H>>(
+fn answer_from_opening<H: Host, I: Source, S: FileStore<H>>(
     alloc: Global,
     session: &mut Session<S>,
     pump: u64,

@@ -8,7 +8,7 @@ use std::cell::RefCell;
 use std::process::Abort;
 use std::rc::Rc;
 use std::test::Fail;
-use store_trait::{HeapStore, Keyed, ReadStore};
+use store_trait::{HeapStore, Keyed, ReadStore, Store};
 
 // The steps that are asked of a store, in their repeated order. Behind `Compact` comes `Reap`, which asks nothing of it.
 const ORDER: [StepKind; 3] = [StepKind::Index, StepKind::Flush, StepKind::Compact];
@@ -80,6 +80,12 @@ impl<H: Host> Store<H> for NotingStore {
         } else {
             Err(StoreFault::Memory)
         }
+    }
+}
+
+impl<H: Host> FileStore<H> for NotingStore {
+    fn figures(&mut self, host: &mut H, moment: u64) -> Result<(u64, u64, u64), StoreFault> {
+        self.store.figures(host, moment)
     }
 }
 

@@ -1,5 +1,5 @@
-// Runs by settings that are handed in: where files end, what is written and not yet sealed, what a step does, and that the
-// steps behind the answers make no difference.
+// Runs by settings that are handed in: where files end, what is written and not yet sealed, what a step does, what a count
+// of the files gives, and that the steps behind the answers make no difference.
 ghost use Rattle.std.specs.Prelude.{◌≤◌, IfOk};
 ghost use Rattle.cache_model.specs.Settings.{AreInRange};
 
@@ -73,7 +73,7 @@ pub(super) fn serve_lines(
 // A run over an empty directory: whether each change is synced, the script, what it says, and the files that stand then.
 type Run = (bool, &'static str, &'static str, &'static [NamedBytes]);
 
-const RUNS: [Run; 9] = [
+const RUNS: [Run; 11] = [
     // What isn't sealed stays behind its closed gate.
     (
         false,
@@ -126,6 +126,19 @@ const RUNS: [Run; 9] = [
         "put a b\nstep rotate\nput a c\n",
         "opened 1000\nok\ndone\nok\nstopped\n",
         &[(FIRST, ONE_PUT), (SECOND, SECOND_PUT)],
+    ),
+    // What is live is the newest record of each key, also where it isn't sealed yet.
+    (
+        true,
+        "stats\nput a b\nstats\nstep rotate\nput a c\nstats\n",
+        "opened 1000\nstats files 0 bytes 0 live 0 pending 0 held 0\nok\nstats files 1 bytes 37 live 25 pending 0 held 0\ndone\nok\nstats files 2 bytes 74 live 25 pending 0 held 0\nstopped\n",
+        &[(FIRST, ONE_PUT), (SECOND, SECOND_PUT)],
+    ),
+    (
+        false,
+        "put k v1\nsync\nput k v2\nstats\nhalt\n",
+        "opened 1000\nok\nok\nok\nstats files 1 bytes 64 live 26 pending 0 held 0\nhalted\n",
+        &[(FIRST, SYNCED_AND_NOT)],
     ),
     (
         true,

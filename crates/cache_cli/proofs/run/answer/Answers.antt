@@ -16,8 +16,8 @@ returns-in-Ok-clause-answered g c = λ tells from course ordered line left talk 
     let reply = c.in-Ok-Some.reply in
     let does = c.in-Ok-Some.ensures.does tells from course ordered (line ∷ left) talk talking (ap asked_by asked) in
     let did = subst (λ (o : Option Reply). DoesBy o start course ordered (line ∷ left) talk c.args.command old mid) c.in-Ok-Some.field-0-is does.goes in
-    let hand = reply_in_hand start course ordered left talk line c.args.command reply old mid talking asked does.silent did in
-    answered_ok start course ordered left talk line (replies reply) old mid now talking does.silent c.goes_on.result c.goes_on.ensures
+    let hand = reply_in_hand start course ordered left talk line c.args.command reply old mid talking asked does.silent does.later did in
+    answered_ok start course ordered left talk line (replies reply) old mid now talking does.silent does.later c.goes_on.result c.goes_on.ensures
     (c.in-Ok.ensures.told tells from course ordered left (with_answer talk line (replies reply)) (asked_in course talk) hand)
 
 pub returns-in-Ok-Some-clause-answered : goal.returns-in-Ok-Some-clause-answered
@@ -29,8 +29,8 @@ returns-in-Ok-Some-clause-answered g c = λ tells from course ordered line left 
     let reply = c.in-Ok-Some.reply in
     let does = c.in-Ok-Some.ensures.does tells from course ordered (line ∷ left) talk talking (ap asked_by asked) in
     let did = subst (λ (o : Option Reply). DoesBy o start course ordered (line ∷ left) talk c.args.command old mid) c.in-Ok-Some.field-0-is does.goes in
-    let hand = reply_in_hand start course ordered left talk line c.args.command reply old mid talking asked does.silent did in
-    answered_err start course ordered left talk line (replies reply) old mid now talking does.silent c.in-Err-say_reply.status
+    let hand = reply_in_hand start course ordered left talk line c.args.command reply old mid talking asked does.silent does.later did in
+    answered_err start course ordered left talk line (replies reply) old mid now talking does.silent does.later c.in-Err-say_reply.status
     (c.in-Err-say_reply.ensures.told tells from course ordered left (with_answer talk line (replies reply)) (asked_in course talk) hand)
 
 pub returns-in-Ok-say_refusal-clause-answered : goal.returns-in-Ok-say_refusal-clause-answered
@@ -41,8 +41,8 @@ returns-in-Ok-say_refusal-clause-answered g c = λ tells from course ordered lin
     let now = view_by g.S.Keyed.facts g.S.Keyed.means c.do_command.new.session (g.H.Host.state c.say_refusal.new.host) in
     let does = c.in-Ok-None.ensures.does tells from course ordered (line ∷ left) talk talking (ap asked_by asked) in
     let did = subst (λ (o : Option Reply). DoesBy o start course ordered (line ∷ left) talk c.args.command old mid) c.in-Ok-None.field-0-is does.goes in
-    let hand = memory_in_hand start course ordered left talk line c.args.command old mid talking asked does.silent did in
-    answered_ok start course ordered left talk line (refused memory) old mid now talking does.silent true refl
+    let hand = memory_in_hand start course ordered left talk line c.args.command old mid talking asked does.silent does.later did in
+    answered_ok start course ordered left talk line (refused memory) old mid now talking does.silent does.later true refl
     (c.in-Ok-say_refusal.ensures.told tells from course ordered left (with_answer talk line (refused memory)) (asked_in course talk) hand)
 
 pub returns-in-Ok-None-clause-answered : goal.returns-in-Ok-None-clause-answered
@@ -53,8 +53,8 @@ returns-in-Ok-None-clause-answered g c = λ tells from course ordered line left 
     let now = view_by g.S.Keyed.facts g.S.Keyed.means c.do_command.new.session (g.H.Host.state c.say_refusal.new.host) in
     let does = c.in-Ok-None.ensures.does tells from course ordered (line ∷ left) talk talking (ap asked_by asked) in
     let did = subst (λ (o : Option Reply). DoesBy o start course ordered (line ∷ left) talk c.args.command old mid) c.in-Ok-None.field-0-is does.goes in
-    let hand = memory_in_hand start course ordered left talk line c.args.command old mid talking asked does.silent did in
-    answered_err start course ordered left talk line (refused memory) old mid now talking does.silent c.in-Err-say_refusal.status
+    let hand = memory_in_hand start course ordered left talk line c.args.command old mid talking asked does.silent does.later did in
+    answered_err start course ordered left talk line (refused memory) old mid now talking does.silent does.later c.in-Err-say_refusal.status
     (c.in-Err-say_refusal.ensures.told tells from course ordered left (with_answer talk line (refused memory)) (asked_in course talk) hand)
 
 pub returns-clause-answered : goal.returns-clause-answered

@@ -15,8 +15,8 @@ returns-in-Ok-Some-clause-ended g c = λ tells from course ordered talk talking.
     let now = view_by g.S.Keyed.facts g.S.Keyed.means c.do_command.new.session (g.H.Host.state c.say_reply.new.host) in
     let does = c.in-Ok-Some.ensures.does tells from course ordered [] talk talking refl in
     let did = subst (λ (o : Option Reply). DoesBy o start course ordered [] talk Stop old mid) c.in-Ok-Some.field-0-is does.goes in
-    let hand = end_in_hand start course ordered talk c.in-Ok-Some.reply old mid talking does.silent did in
-    closed start course ordered talk old mid now c.say_reply.result talking does.silent (c.say_reply.ensures.told tells from course ordered [] (with_end talk) (asked_in course talk) hand)
+    let hand = end_in_hand start course ordered talk c.in-Ok-Some.reply old mid talking does.silent does.later did in
+    closed start course ordered talk old mid now c.say_reply.result talking does.silent does.later (c.say_reply.ensures.told tells from course ordered [] (with_end talk) (asked_in course talk) hand)
 
 pub returns-in-Ok-None-clause-ended : goal.returns-in-Ok-None-clause-ended
 returns-in-Ok-None-clause-ended g c = λ tells from course ordered talk talking.

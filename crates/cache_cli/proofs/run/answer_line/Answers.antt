@@ -8,6 +8,7 @@ use Rattle.cache_cli.specs.Run.{view_by}
 use Rattle.cache_cli.proofs.Answering.{with_answer}
 use Rattle.cache_script.proofs.Known.{asked_of}
 use Rattle.cache_cli.proofs.Built.{line_built}
+use Rattle.cache_cli.proofs.Later.{later_same}
 use Rattle.cache_cli.proofs.Lines.{refusal_in_hand, answered_ok, answered_err}
 use Rattle.cache_cli.proofs.run.answer_line.Goals as goal
 
@@ -27,7 +28,7 @@ returns-in-Ok-say_refusal-clause-answered g c = λ tells from course ordered raw
     let refusal = refusal_of c.in-Err.fault in
     let answers = subst (λ (m : LineMeaning). Answers [] (plain_of talk) m (refused refusal)) (sym means) (c.in-Err.ensures.refused [] (plain_of talk)) in
     let hand = refusal_in_hand start course ordered left talk raw refusal old talking answers in
-    answered_ok start course ordered left talk raw (refused refusal) old old now talking refl true refl
+    answered_ok start course ordered left talk raw (refused refusal) old old now talking refl (later_same old.host) true refl
     (c.in-Ok-say_refusal.ensures.told tells from course ordered left (with_answer talk raw (refused refusal)) (asked_in course talk) hand)
 
 pub returns-in-Err-say_refusal-clause-answered : goal.returns-in-Err-say_refusal-clause-answered
@@ -39,5 +40,5 @@ returns-in-Err-say_refusal-clause-answered g c = λ tells from course ordered ra
     let refusal = refusal_of c.in-Err.fault in
     let answers = subst (λ (m : LineMeaning). Answers [] (plain_of talk) m (refused refusal)) (sym means) (c.in-Err.ensures.refused [] (plain_of talk)) in
     let hand = refusal_in_hand start course ordered left talk raw refusal old talking answers in
-    answered_err start course ordered left talk raw (refused refusal) old old now talking refl c.in-Err-say_refusal.status
+    answered_err start course ordered left talk raw (refused refusal) old old now talking refl (later_same old.host) c.in-Err-say_refusal.status
     (c.in-Err-say_refusal.ensures.told tells from course ordered left (with_answer talk raw (refused refusal)) (asked_in course talk) hand)

@@ -5,6 +5,7 @@ use Rattle.cache_script.specs.LineReader.{unread, units_taken, HasContent, Takes
 use Rattle.cache_cli.specs.Talk.{asked_in}
 use Rattle.cache_cli.specs.Run.{view_by, IsTalking}
 use Rattle.cache_cli.proofs.Ending.{ends_early}
+use Rattle.cache_cli.proofs.Later.{later_same}
 use Rattle.cache_cli.proofs.Stepping.{has_line, answered_line, long_goes, long_ends, answered_end, ends_taken}
 use Rattle.cache_cli.proofs.run.answer_next.Goals as goal
 
@@ -95,9 +96,9 @@ returns-in-Ok-Spent-clause-answered g c = λ tells told from course ordered talk
 pub returns-in-Err-Failed-clause-answered : goal.returns-in-Err-Failed-clause-answered
 returns-in-Err-Failed-clause-answered g c = λ tells told from course ordered talk on.
     let old = view_by g.S.Keyed.facts g.S.Keyed.means c.args.session.now (g.H.Host.state c.args.host.now) in
-    record { goes = tt; ends = ends_early (g.H.Host.state from) course ordered _ talk (asked_in course talk) old old.host on.talking refl; holds = on.talking.0.holds }
+    record { goes = tt; ends = ends_early (g.H.Host.state from) course ordered _ talk (asked_in course talk) old old.host on.talking refl (later_same old.host); holds = on.talking.0.holds }
 
 pub returns-in-Err-Memory-clause-answered : goal.returns-in-Err-Memory-clause-answered
 returns-in-Err-Memory-clause-answered g c = λ tells told from course ordered talk on.
     let old = view_by g.S.Keyed.facts g.S.Keyed.means c.args.session.now (g.H.Host.state c.args.host.now) in
-    record { goes = tt; ends = ends_early (g.H.Host.state from) course ordered _ talk (asked_in course talk) old old.host on.talking refl; holds = on.talking.0.holds }
+    record { goes = tt; ends = ends_early (g.H.Host.state from) course ordered _ talk (asked_in course talk) old old.host on.talking refl (later_same old.host); holds = on.talking.0.holds }

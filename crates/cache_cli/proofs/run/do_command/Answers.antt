@@ -22,7 +22,7 @@ returns-in-Ok-clause-does g c = λ tells from course ordered left talk talking h
     let turn = ensures.turns tells [] (plain_of talk) talking.0.moment talking.0.standing.shows in
     let unspoilt = ensures.goes.unspoilt in
     let follows = c.requires.follows course.pace.queue (store_of session) (store_of after) c.args.host.now c.turn.new.host ensures.goes.same talking.0.follows in
-    does_ok start course ordered left talk old new c.args.command spoilt talking hand ensures.goes.same c.in-Ok.reply c.requires.built follows unspoilt
+    does_ok start course ordered left talk old new c.args.command spoilt talking hand ensures.goes.same c.in-Ok.reply c.requires.built (g.met.H.Host.reads_now c.args.host.now tells) follows unspoilt
     (g.met.S.ReadStore.holds_now (store_of after) c.turn.new.host tells (second_false (is_broken after) (g.S.Keyed.facts (store_of after)).spoilt unspoilt) (ensures.stands tells unspoilt))
     ensures.goes.goes turn
 

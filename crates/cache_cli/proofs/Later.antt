@@ -1,0 +1,84 @@
+-- What was told of files that read so stays true where more files did, as on later hosts.
+use Rattle.std.proofs.Common.{◌≡◌, ℕ, ◌+◌, ◌≤◌, List, [], ◌∷◌, refl, arith}
+use Rattle.cache_model.specs.declared.commands.Command.{Command}
+use Rattle.cache_model.specs.declared.commands.Command.TheVariants.{Step, Sync, Stop, Stats}
+use Rattle.cache_model.specs.declared.replies.Reply.{Reply}
+use Rattle.cache_model.specs.Files.{Image}
+use Rattle.cache_model.specs.Plain.{Plain}
+use Rattle.cache_model.specs.Lines.{LineMeaning, asks, refuses, meaning_of}
+use Rattle.cache_model.specs.Replies.{Response, replies, refused}
+use Rattle.cache_model.specs.Transcript.{after_answer}
+use Rattle.cache_disk.specs.State.{HostState, Moves}
+use Rattle.store_trait.specs.Meaning.{Row}
+use Rattle.cache_cli.specs.Parts.{Parts, CommandMoves, AnswerMoves}
+use Rattle.cache_cli.specs.Pump.{Pace, steps_behind, PartsThrough, HasMoved}
+use Rattle.cache_cli.specs.Talk.{Course, Talk, HasRead, IsTalk}
+use Rattle.cache_cli.specs.Run.{IsLater}
+
+pub later_same : (a : HostState) → IsLater a a
+later_same a = record { later = omega arith; kept = λ t files early left. left }
+
+pub later_then : (a b c : HostState) → IsLater a b → IsLater b c → IsLater a c
+later_then a b c ab bc = record { later = omega (arith, ab.later, bc.later); kept = λ t files early left. bc.kept t files (omega (arith, early, ab.later)) (ab.kept t files early left) }
+
+pub later_by : (a b : HostState) (step : Image → Image → Type 0) → Moves a b step → IsLater a b
+later_by a b step moves = record { later = moves.later; kept = moves.kept }
+
+-- files that read so by then did so by later
+pub read_later : (course : Course) (a b : HostState) → IsLater a b → (files : Image) → HasRead course a files → HasRead course b files
+read_later course a b later files read = (read.0, read.1, omega (arith, read.2, later.later), later.kept read.0 files read.2 read.3)
+
+module _ (one two : Image → Type 0) (more : (files : Image) → one files → two files) where
+  command_more : (queue : ℕ) (plain : Plain) (command : Command) (reply : Reply) (a b : Parts) → CommandMoves one queue plain command reply a b → CommandMoves two queue plain command reply a b
+  command_more queue plain (Step kind) reply a b moves = moves
+  command_more queue plain Stats reply a b moves = record { files = moves.files; is_read = more moves.files moves.is_read; figures = moves.figures; reply = moves.reply; counts = moves.counts }
+  command_more queue plain Sync reply a b moves = moves
+  command_more queue plain Stop reply a b moves = moves
+  command_more queue plain command reply a b moves = moves
+
+  answer_more : (queue : ℕ) (plain : Plain) (meaning : LineMeaning) (response : Response) (a b : Parts) → AnswerMoves one queue plain meaning response a b → AnswerMoves two queue plain meaning response a b
+  answer_more queue plain (refuses refusal) response a b moves = moves
+  answer_more queue plain (asks command) (refused refusal) a b moves = moves
+  answer_more queue plain (asks command) (replies reply) a b moves = command_more queue plain command reply a b moves
+
+  through_more : (pace : Pace) (taken due : ℕ) (plain : Plain) (lines : List (List ℕ)) (responses : List Response) (a : Parts) (all : ℕ) (b : Parts)
+      → PartsThrough one pace taken due plain lines responses a all b → PartsThrough two pace taken due plain lines responses a all b
+  through_more pace taken due plain [] [] a all b is = is
+  through_more pace taken due plain [] (r ∷ responses) a all b is = absurd is
+  through_more pace taken due plain (l ∷ lines) [] a all b is = absurd is
+  through_more pace taken due plain (l ∷ lines) (r ∷ responses) a all b is = (
+    is.0,
+    is.1,
+    is.2,
+    answer_more pace.queue plain (meaning_of l) r is.0 is.1 is.3,
+    through_more pace (taken + due) (steps_behind pace.pump r) (after_answer plain (meaning_of l) r) lines responses is.1 all b is.4,
+  )
+
+  moved_more : (pace : Pace) (plain : Plain) (lines : List (List ℕ)) (responses : List Response) (taken : ℕ) (rows : List Row) → HasMoved one pace plain lines responses taken rows → HasMoved two pace plain lines responses taken rows
+  moved_more pace plain lines responses taken rows moved = record {
+    parts = moved.parts;
+    is_rows = moved.is_rows;
+    within = moved.within;
+    moved = through_more pace 0 0 plain lines responses _ taken moved.parts moved.moved;
+  }
+
+  talk_more : (talk : Talk) (course : Course) (left : List (List ℕ)) → IsTalk one talk course left → IsTalk two talk course left
+  talk_more talk course left is = record {
+    opens = is.opens;
+    first = is.first;
+    file = is.file;
+    split = is.split;
+    answers = is.answers;
+    parts = (is.parts.0, is.parts.1, through_more course.pace 0 0 talk.opening talk.answered talk.responses _ is.parts.0 is.parts.1 is.parts.2);
+    whole = is.whole;
+  }
+
+module _ (course : Course) (a b : HostState) (later : IsLater a b) where
+  -- a talk is one still
+  pub talk_later : (talk : Talk) (left : List (List ℕ)) → IsTalk (HasRead course a) talk course left → IsTalk (HasRead course b) talk course left
+  talk_later talk left is = talk_more (HasRead course a) (HasRead course b) (read_later course a b later) talk course left is
+
+  -- and parts were moved so still
+  pub moved_later : (plain : Plain) (lines : List (List ℕ)) (responses : List Response) (taken : ℕ) (rows : List Row)
+      → HasMoved (HasRead course a) course.pace plain lines responses taken rows → HasMoved (HasRead course b) course.pace plain lines responses taken rows
+  moved_later plain lines responses taken rows moved = moved_more (HasRead course a) (HasRead course b) (read_later course a b later) course.pace plain lines responses taken rows moved
