@@ -1,0 +1,3 @@
+mod Copied
+mod Leaving
+mod Without
