@@ -36,7 +36,7 @@ REFUSED = [
     (b"sync x", b"refused syntax"),
     (b"step  rotate", b"refused syntax"),
     (b"step flush", b"refused syntax"),
-    (b"stats", b"refused syntax"),
+    (b"stats x", b"refused syntax"),
     (b"export", b"refused syntax"),
     (b"remove %.", b"refused key 0"),
     (b"has " + b"k" * 1025, b"refused key 1025"),
@@ -58,9 +58,10 @@ class Plain:
     """A plain map with a moment, and the parts of a store that steps work on. Each method answers a command, and tells the
     changes that it made."""
 
-    def __init__(self, entries, moment, settings):
+    def __init__(self, folder, entries, moment, settings):
         self.entries, self.moment = dict(entries), moment
         self.parts = support.Parts(settings)
+        self.files = support.Files(folder, settings)
 
     def seen(self, key):
         """The value of a key, None where it isn't visible."""
@@ -71,8 +72,10 @@ class Plain:
         return sorted(key for key in self.entries if self.seen(key) is not None)
 
     def change(self, changes):
-        for key, entry in changes.items():
+        for key in sorted(changes, key=lambda key: (self.files.hash(key), key)):
+            entry = changes[key]
             self.parts.change()
+            self.files.change(key, entry and entry[0])
             if entry is None:
                 self.entries.pop(key, None)
             else:
@@ -127,12 +130,18 @@ class Plain:
         return b"cleared %d" % len(keys), dict.fromkeys(keys)
 
     def sync(self):
+        self.files.seal()
         return b"ok", {}
+
+    def stats(self):
+        self.parts.count()
+        return self.files.figures(), {}
 
     def index(self):
         return self.parts.step("index"), {}
 
     def rotate(self):
+        self.files.rotate()
         return self.parts.step("rotate"), {}
 
     def stop(self):
@@ -183,7 +192,7 @@ class Drawn:
         if name == "at":
             wanted = max(0, moment + self.choice.randrange(-3, 6))
             return [b"%d" % wanted], [wanted]
-        if name in ("size", "keys", "clear", "sync", "index", "rotate", "stop", "halt"):
+        if name in ("size", "keys", "clear", "sync", "stats", "index", "rotate", "stop", "halt"):
             return [], []
         given = [self.key()]
         if name in ("replaceif", "removeif"):
@@ -202,7 +211,7 @@ class Drawn:
         if drawn < 0.15:
             return self.choice.choice(["size", "keys", "clear"])
         if drawn < 0.3:
-            return self.choice.choice(["sync", "sync", "index", "index", "index", "rotate"])
+            return self.choice.choice(["sync", "sync", "stats", "stats", "index", "index", "index", "rotate"])
         kept = ["put", "putabsent", "replace", "replaceif", "get", "has", "remove", "removeif", "at"]
         return self.choice.choice(kept)
 
@@ -246,7 +255,7 @@ def whole_run(folder, drawn):
     held, mark = held_in(folder)
     settings = support.draw_settings(folder, drawn.choice)
     given = drawn.choice.randrange(20)
-    lines = drawn.lines(Plain(held, max(given, mark), settings))
+    lines = drawn.lines(Plain(folder, held, max(given, mark), settings))
     status, said, errors = support.run([folder, "--at", str(given)], drawn.script(lines))
     equal((status, errors), (DONE, b""), "status and errors")
     answers = answered(lines)
@@ -278,7 +287,7 @@ def killed_run(folder, drawn):
     held, mark = held_in(folder)
     settings = support.draw_settings(folder, drawn.choice)
     given = drawn.choice.randrange(20)
-    lines = drawn.lines(Plain(held, max(given, mark), settings))
+    lines = drawn.lines(Plain(folder, held, max(given, mark), settings))
     words = [folder, "--at", str(given)]
     least, wait = drawn.choice.randrange(len(lines) + 1), drawn.choice.random() * 0.003
     status, said = support.run_and_kill(words, drawn.script(lines), least, wait)

@@ -92,7 +92,9 @@ REPLIES = {
     b"evict a": "refused syntax",
     b"compact": "refused syntax",
     b"compact 1": "refused syntax",
-    b"stats": "refused syntax",
+    b"stats x": "refused syntax",
+    b"stats 1": "refused syntax",
+    b"Stats": "refused syntax",
     b"export": "refused syntax",
     b"get %.": "refused key 0",
     b"removeif %. x": "refused key 0",
@@ -163,7 +165,7 @@ def test_last_line_without_end(folder):
 def test_first_lines(folder):
     """A put is done and read, and the lines that aren't built or aren't in the grammar are refused."""
     said = ["opened 1000", "ok", "value b", "refused syntax", "refused syntax", "stopped"]
-    check_words(AT, folder, b"put a b\nget a\nput\nstats\n", DONE, said)
+    check_words(AT, folder, b"put a b\nget a\nput\nexport\n", DONE, said)
     equal((folder / FIRST_FILE).read_bytes(), ONE_PUT, "the file")
 
 

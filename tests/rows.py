@@ -6,10 +6,10 @@ from support import check_names, check_words, counted_frames, equal, log_name, s
 KEY, VALUE = b"a" * 1024, b"b" * 65536
 
 
-def check_answers(folder, moment, rows):
-    """Runs a script at a moment, and asks for the answer to each of its lines."""
+def check_answers(folder, moment, rows, opened=None):
+    """Runs a script at a moment, and asks for the answer to each of its lines. It begins at that moment or another one."""
     script = b"".join(line + b"\n" for line, _ in rows)
-    said = [f"opened {moment}", *[answer for _, answer in rows], "stopped"]
+    said = [f"opened {moment if opened is None else opened}", *[answer for _, answer in rows], "stopped"]
     check_words(["--at", str(moment)], folder, script, DONE, said)
 
 
@@ -173,6 +173,56 @@ def test_reads_around_index_steps(folder):
         (b"get a", "none"),
         (b"keys", "keys"),
     ])
+
+
+def counts(files, size, live):
+    """The answer to `stats` with these figures."""
+    return f"stats files {files} bytes {size} live {live} pending 0 held 0"
+
+
+def test_counts_of_files(folder):
+    """What is live is the newest record of each key, a removal or an expired put too. The figures are the same whatever
+    waits for the index, which a count empties, and in a later run."""
+    for pump, queue in ((0, 64), (0, 1), (1, 64), (1000, 64)):
+        place = folder / f"{pump}-{queue}"
+        place.mkdir()
+        set_folder(place, f"pump = {pump}\nqueue = {queue}\n")
+        check_answers(place, 1000, [
+            (b"stats", counts(0, 0, 0)),
+            (b"put a x", "ok"),
+            (b"stats", counts(1, 37, 25)),
+            (b"step index", "idle"),
+            (b"put a y", "ok"),
+            (b"stats", counts(1, 72, 25)),
+            (b"put b zz ttl 5", "ok"),
+            (b"at 1005", "ok"),
+            (b"get b", "none"),
+            (b"stats", counts(1, 108, 51)),
+            (b"step rotate", "done"),
+            (b"put", "refused syntax"),
+            (b"stats", counts(1, 108, 51)),
+            (b"remove a", "ok"),
+            (b"stats", counts(2, 132, 38)),
+        ])
+        check_sizes(place, [108, 24])
+        check_answers(place, 5, [(b"stats", counts(2, 132, 38))], opened=1005)
+
+
+def test_counts_of_unsealed_records(folder):
+    """A record that isn't sealed yet is live where it is its key's newest, and its bytes are the file's."""
+    set_folder(folder, "sync_writes = false\n")
+    check_answers(folder, 1000, [
+        (b"put k v1", "ok"),
+        (b"stats", counts(1, 28, 26)),
+        (b"sync", "ok"),
+        (b"put k v2", "ok"),
+        (b"stats", counts(1, 64, 26)),
+        (b"put k v3", "ok"),
+        (b"stats", counts(1, 90, 26)),
+        (b"step rotate", "done"),
+        (b"stats", counts(1, 100, 26)),
+    ])
+    check_sizes(folder, [100])
 
 
 def test_removal_of_one_hash(folder):

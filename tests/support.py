@@ -43,9 +43,15 @@ BACKGROUND = ["index", "flush", "compact", "reap"]
 
 NEVER = 2**64 - 1
 
+# The size that a data file gets, and the bits of the keys' hash, by default.
+FILE_SIZE, BITS = 16777216, 32
+
+# How many bytes the end of a frame takes, with the gate behind it.
+FRAME_END = 10
+
 # What tests go by of the settings that were drawn: whether each write is synced, how many requests may wait for the index,
-# and how many background steps follow an answer.
-Settings = collections.namedtuple("Settings", "synced queue pump")
+# how many background steps follow an answer, what size a data file gets, and the bits of the keys' hash.
+Settings = collections.namedtuple("Settings", "synced queue pump file_size bits")
 
 # A record whose value is None removes its key, and has no expiry.
 Frame = collections.namedtuple("Frame", "records moment")
@@ -121,7 +127,13 @@ def draw_settings(folder, choice):
     drawn = {name: choice.choice(values) for name, values in DRAWN_SETTINGS.items()}
     given = {name: value for name, value in drawn.items() if value is not None}
     set_folder(folder, "".join(f"{name} = {value}\n" for name, value in given.items()))
-    return Settings(drawn["sync_writes"] != "false", given.get("queue", QUEUE), given.get("pump", PUMP))
+    return Settings(
+        drawn["sync_writes"] != "false",
+        given.get("queue", QUEUE),
+        given.get("pump", PUMP),
+        given.get("file_size", FILE_SIZE),
+        given.get("hash_bits", BITS),
+    )
 
 
 class Parts:
@@ -148,11 +160,75 @@ class Parts:
             is_done = True
         return b"done" if is_done else b"idle"
 
+    def count(self):
+        """The files were counted: nothing waits for the index then."""
+        self.waiting = 0
+
     def answered(self):
         """Takes the background steps behind an answer."""
         for _ in range(self.pump):
             self.step(BACKGROUND[self.steps % len(BACKGROUND)])
             self.steps += 1
+
+
+class Files:
+    """The data files of a folder as a run writes them: the size of each, where the newest record of each key stands, with its
+    length, and whether the file that is being written, where there is one, has something that isn't sealed."""
+
+    def __init__(self, folder, settings):
+        self.settings = settings
+        self.sizes = {int(path.stem[3:]): path.stat().st_size for path in folder.glob("s0-*.log")}
+        self.newest = {}
+        for number in sorted(self.sizes):
+            for frame in counted_frames(folder / log_name(number)):
+                for record in frame.records:
+                    self.read(number, record)
+        self.newest = {key: place[1:] for key, place in self.newest.items()}
+        self.current, self.unsealed = None, False
+
+    def read(self, number, record):
+        if record.key not in self.newest or self.newest[record.key][0] <= record.sequence:
+            self.newest[record.key] = (record.sequence, number, record_length(record.key, record.value))
+
+    def change(self, key, value):
+        """A record was written: that of a removal where the value is None."""
+        length = record_length(key, value)
+        if self.current and self.sizes[self.current] + length + FRAME_END > self.settings.file_size:
+            self.rotate()
+        if not self.current:
+            self.current = max(self.sizes, default=0) + 1
+            self.sizes[self.current] = 2
+        self.sizes[self.current] += length
+        self.newest[key] = (self.current, length)
+        self.unsealed = True
+        if self.settings.synced:
+            self.seal()
+
+    def seal(self):
+        if self.unsealed:
+            self.sizes[self.current] += FRAME_END
+        self.unsealed = False
+
+    def rotate(self):
+        self.seal()
+        self.current = None
+
+    def hash(self, key):
+        """The hash of a key: it comes first in the order in which a clear removes keys."""
+        hash = 2166136261
+        for byte in key:
+            hash = (hash ^ byte) * 16777619 % 2**32
+        return hash % 2**self.settings.bits
+
+    def figures(self):
+        """The answer to the line `stats`."""
+        live = sum(length for _, length in self.newest.values())
+        figures = (len(self.sizes), sum(self.sizes.values()), live)
+        return b"stats files %d bytes %d live %d pending 0 held 0" % figures
+
+
+def record_length(key, value):
+    return 11 + len(key) if value is None else 23 + len(key) + len(value)
 
 
 def names_in(folder):
