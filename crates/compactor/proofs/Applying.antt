@@ -1,5 +1,5 @@
 -- What the index holds once a request was applied: the parts stand for the same records, and the counts went on.
-use Rattle.std.proofs.Common.{◌≡◌, ◌⊎◌, inl, inr, ⊎_elim, ℕ, ◌<◌, ◌≤◌, Bool, true, false, List, [], ◌∷◌, All, Option, Some, None, refl, sym, ◌∙◌, ap, subst, arith}
+use Rattle.std.proofs.Common.{◌≡◌, ℕ, ◌<◌, ◌≤◌, Bool, true, false, List, [], ◌∷◌, Option, Some, None, refl, sym, ◌∙◌, ap, subst, arith}
 use Rattle.std.specs.Prelude.{cond, nat_lt, if◌then◌else◌}
 use Rattle.std.specs.Str.{bytes_eq}
 use Rattle.std.proofs.lemmas.Bool.Decides.{nat_tests}
@@ -15,7 +15,7 @@ use Rattle.temporary_table.specs.declared.requests.Request.{Request}
 use Rattle.temporary_table.specs.declared.requests.Request.TheVariants.{Set, Swap, Drop, Less}
 use Rattle.temporary_table.specs.Places.{Places}
 use Rattle.temporary_table.specs.Queue as queue
-use Rattle.tree_index.specs.Index.{Index, AreOrdered, Sets, entries_of, is_key, value_at}
+use Rattle.tree_index.specs.Index.{Index, AreOrdered, Sets, entries_of, value_at}
 use Rattle.compactor.specs.declared.finding.FoundEntry.{FoundEntry}
 use Rattle.compactor.specs.Counting.{Counts, AreThere}
 use Rattle.compactor.specs.Entering.{Row, Drops, Puts, Settles, count_behind, entry_key, one_less, one_more, recounted, row_by, stale_by, stands_at, swapped}
@@ -26,7 +26,7 @@ use Rattle.compactor.proofs.Entries.{held, key_itself, same_key}
 use Rattle.compactor.proofs.Looked.{found_is, none_is}
 use Rattle.compactor.proofs.Passed.{passed, recounted_indexed, with_count}
 use Rattle.compactor.proofs.Raised.{count_of, counted, moved_to, put_counted, recounted_counted}
-use Rattle.compactor.proofs.Reindexed.{is_found, same_bits}
+use Rattle.compactor.proofs.Reindexed.{same_bits}
 use Rattle.compactor.proofs.Rows.{placed_once}
 use Rattle.compactor.proofs.Standing.{stands}
 use Rattle.compactor.proofs.StillIndexed.{lone, put_indexed}

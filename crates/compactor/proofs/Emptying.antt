@@ -1,12 +1,11 @@
 -- Index steps until none waits.
-use Rattle.std.proofs.Common.{◌≡◌, ◌⊎◌, inl, inr, ℕ, ◌+◌, ◌<◌, ◌==◌, Bool, true, false, IsTrue, List, [], ◌∷◌, length, refl, sym, ◌∙◌, ap, subst, arith}
+use Rattle.std.proofs.Common.{◌≡◌, ◌⊎◌, inl, inr, ◌<◌, ◌==◌, Bool, true, false, IsTrue, List, [], ◌∷◌, length, refl, ◌∙◌, ap, arith}
 use Rattle.std.specs.Prelude.{Result, Ok, Err, IsErrOf}
 use Rattle.std.proofs.lemmas.Bool.Decides.{nat_tests}
 use Rattle.cache_model.specs.declared.faults.StoreFault.{StoreFault}
 use Rattle.cache_model.specs.declared.faults.StoreFault.TheVariants as fault
 use Rattle.cache_model.specs.declared.replies.Turned.{Turned}
 use Rattle.cache_model.specs.declared.replies.Turned.TheVariants.{Done, Idle}
-use Rattle.cache_model.specs.Files.{Image}
 use Rattle.cache_model.specs.Images.{log_name}
 use Rattle.cache_disk.specs.State.{HostState, Stands}
 use Rattle.cache_disk.specs.Calls.{HasStoreCause}

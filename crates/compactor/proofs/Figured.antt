@@ -1,6 +1,6 @@
 -- The live bytes of the files go along with the entries of the index.
-use Rattle.std.proofs.Common.{◌≡◌, ◌⊎◌, inl, inr, ⊎_elim, ℕ, ◌+◌, ◌-◌, ◌≤◌, ◌==◌, Bool, true, false, List, [], ◌∷◌, Contains, All, length, Option, Some, None, unwrap_or, refl, sym, ◌∙◌, ap, subst, arith}
-use Rattle.std.specs.Prelude.{cond, map, min, is_some, option_and_then, sum_by, if◌then◌else◌}
+use Rattle.std.proofs.Common.{◌≡◌, ◌⊎◌, inl, inr, ℕ, ◌+◌, ◌≤◌, ◌==◌, Bool, true, false, List, [], ◌∷◌, Contains, All, length, Option, Some, None, unwrap_or, refl, sym, ◌∙◌, ap, subst, arith}
+use Rattle.std.specs.Prelude.{cond, map, is_some, option_and_then, sum_by}
 use Rattle.std.proofs.lemmas.Bool.Decides.{nat_tests}
 use Rattle.std.proofs.lemmas.List.Elements.{All-map, All-weaker}
 use Rattle.std.proofs.lemmas.List.Sums.{sum_by-cons, sum_by-le-sum_by}
@@ -10,7 +10,6 @@ use Rattle.cache_model.specs.declared.index.IndexValue.{IndexValue}
 use Rattle.cache_model.specs.Files.{bytes_in}
 use Rattle.cache_model.specs.Hash.{hash}
 use Rattle.cache_model.specs.Items.{Item, spelling}
-use Rattle.cache_model.specs.DataFiles.{counted_items}
 use Rattle.cache_model.specs.Images.{log_name, key_of}
 use Rattle.cache_model.proofs.Members.{among-none, among-here, among-later, among-cases}
 use Rattle.file_stats.specs.Figures.{grown, grown_by, numbers_of, shrunk, shrunk_by}
@@ -19,7 +18,7 @@ use Rattle.compactor.specs.Counting.{Kept, counts_in}
 use Rattle.compactor.specs.Entering.{Row, Drops, Puts, fresh_by, with_dead, with_live}
 use Rattle.compactor.specs.Figuring.{IsFigured, StandApart, has_entry, item_bytes, items_of, live_in, live_part, sizes_of}
 use Rattle.compactor.specs.Indexing.{IsEntryOf}
-use Rattle.compactor.proofs.Entries.{same_key, key_itself}
+use Rattle.compactor.proofs.Entries.{same_key}
 
 -- sums
 

@@ -7,6 +7,7 @@ pub mod Looked
 pub mod NextEntry
 pub mod NextHash
 pub mod NextKnown
+pub mod NextRecord
 pub mod Noting
 pub mod Passed
 pub mod Placed

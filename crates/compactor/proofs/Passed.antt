@@ -1,5 +1,5 @@
 -- What a request that puts no key anywhere leaves: the parts stand for the same records.
-use Rattle.std.proofs.Common.{◌≡◌, ◌⊎◌, inl, inr, ⊎_elim, ℕ, ◌≤◌, Bool, true, false, List, ◌∷◌, ◌++◌, Option, Some, None, refl, sym, ◌∙◌, ap, subst}
+use Rattle.std.proofs.Common.{◌≡◌, ℕ, ◌≤◌, Bool, true, false, List, ◌∷◌, ◌++◌, Option, Some, None, refl, sym, ◌∙◌, ap, subst}
 use Rattle.std.specs.Prelude.{cond, if◌then◌else◌}
 use Rattle.std.specs.Option.{option_or}
 use Rattle.std.specs.Str.{bytes_eq}
@@ -13,8 +13,8 @@ use Rattle.temporary_table.specs.Places.{Places}
 use Rattle.temporary_table.specs.Queue as queue
 use Rattle.tree_index.specs.Index.{Index, Sets, is_key, value_at}
 use Rattle.compactor.specs.Counting.{Counts}
-use Rattle.compactor.specs.Indexing.{HasEntryAt, IsPut, IsEntryOf, IsIndexed, IsNewestEntry, StandsAt, last_put, put_by, puts_to}
-use Rattle.compactor.proofs.Entries.{same_key, key_itself}
+use Rattle.compactor.specs.Indexing.{IsPut, IsEntryOf, IsIndexed, StandsAt, last_put, put_by, puts_to}
+use Rattle.compactor.proofs.Entries.{same_key}
 
 pub put_nowhere : (request : Request) → puts_to request ≡ None → (key : List ℕ) → put_by key request ≡ None
 put_nowhere request nowhere key = by (bytes_eq (queue.key_of request) key) (puts_to request) nowhere

@@ -1,5 +1,5 @@
 -- How the counts of keys go on with the index.
-use Rattle.std.proofs.Common.{◌≡◌, ◌⊎◌, inl, inr, ⊎_elim, ℕ, ◌≤◌, Bool, true, false, List, Option, Some, None, refl, sym, ◌∙◌, ap, subst}
+use Rattle.std.proofs.Common.{◌≡◌, inl, inr, ⊎_elim, ℕ, ◌≤◌, Bool, true, false, List, Option, Some, None, refl, sym, ◌∙◌, ap, subst}
 use Rattle.std.specs.Prelude.{cond}
 use Rattle.std.specs.Str.{bytes_eq}
 use Rattle.std.proofs.lemmas.Slice.Eq.{bytes_eq-Decides}
@@ -19,7 +19,7 @@ use Rattle.compactor.specs.Finding.{IsEntryFor}
 use Rattle.compactor.specs.Indexing.{IsEntryOf, IsIndexed}
 use Rattle.compactor.specs.Raising.{HasEntryWith, HasNoEntry, HasCount}
 use Rattle.compactor.proofs.Entries.{held, same_key}
-use Rattle.compactor.proofs.Looked.{found_is, none_is}
+use Rattle.compactor.proofs.Looked.{found_is}
 use Rattle.compactor.proofs.Passed.{with_count, entry_recounted, was_held}
 use Rattle.compactor.proofs.Reindexed.{is_found}
 use Rattle.compactor.proofs.StillIndexed.{before, lone, one_key, other_stays, own_there}

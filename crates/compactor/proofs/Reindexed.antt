@@ -1,5 +1,5 @@
 -- What the index holds once an entry is put and the stale one is gone.
-use Rattle.std.proofs.Common.{◌≡◌, ◌⊎◌, inl, inr, ℕ, Bool, true, false, List, Option, Some, None, refl, sym, ◌∙◌, ap, subst}
+use Rattle.std.proofs.Common.{◌≡◌, ◌⊎◌, inl, inr, Bool, true, false, Option, Some, None, refl, sym, ◌∙◌, ap, subst}
 use Rattle.std.specs.Prelude.{cond}
 use Rattle.cache_model.specs.declared.index.IndexKey.{IndexKey}
 use Rattle.cache_model.specs.declared.index.IndexValue.{IndexValue}

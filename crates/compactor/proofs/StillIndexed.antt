@@ -21,7 +21,7 @@ use Rattle.compactor.specs.declared.finding.FoundEntry.{FoundEntry}
 use Rattle.compactor.specs.Counting.{Counts, IsNewestBy, AreThere}
 use Rattle.compactor.specs.Entering.{Drops, Puts, SettlesAt, entry_key, stale_by}
 use Rattle.compactor.specs.Finding.{IsEntryFor}
-use Rattle.compactor.specs.Indexing.{HasEntryAt, IsPlaced, IsPut, IsEntryOf, IsNewestEntry, IsIndexed, StandsAt, last_put, put_by, puts_to}
+use Rattle.compactor.specs.Indexing.{HasEntryAt, IsPut, IsEntryOf, IsNewestEntry, IsIndexed, StandsAt, last_put, put_by, puts_to}
 use Rattle.compactor.proofs.Entries.{held, key_itself, same_key}
 use Rattle.compactor.proofs.Looked.{same_keys, found_is, none_is}
 use Rattle.compactor.proofs.Reindexed.{is_found, holds_fresh, held_before, held_still}

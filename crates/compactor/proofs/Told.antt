@@ -1,16 +1,14 @@
 -- Whether the record at a place is told to be its key's newest.
-use Rattle.std.proofs.Common.{◌≡◌, ℕ, Bool, true, false, IsTrue, List, Contains, Option, Some, None, refl, sym, ◌∙◌, ap, subst}
+use Rattle.std.proofs.Common.{◌≡◌, ℕ, Bool, true, IsTrue, List, Contains, Some, None, sym, ◌∙◌, ap, subst}
 use Rattle.std.specs.Prelude.{Any, ◌↔◌}
 use Rattle.cache_model.specs.declared.files.Place.{Place}
-use Rattle.cache_model.specs.declared.index.IndexKey.{IndexKey}
-use Rattle.cache_model.specs.declared.index.IndexValue.{IndexValue}
 use Rattle.cache_model.specs.Files.{Image}
 use Rattle.cache_model.specs.Hash.{hash}
 use Rattle.cache_model.specs.Items.{Item}
 use Rattle.cache_model.specs.Images.{key_of}
 use Rattle.temporary_table.specs.declared.requests.Request.{Request}
 use Rattle.temporary_table.specs.Places.{Places, place_of}
-use Rattle.tree_index.specs.Index.{Entries, Index, AreOrdered, entries_of, value_at}
+use Rattle.tree_index.specs.Index.{Index, AreOrdered, entries_of}
 use Rattle.compactor.specs.Counting.{Counts, IsNewestBy, AreThere}
 use Rattle.compactor.specs.Entering.{Row, stands_at}
 use Rattle.compactor.specs.Indexing.{IsEntryOf, IsIndexed}

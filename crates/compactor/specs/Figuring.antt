@@ -1,5 +1,5 @@
 -- The live bytes of the data files, by the entries of the index.
-use Rattle.std.specs.Prelude.{◌≡◌, ℕ, ◌≤◌, ◌==◌, Bool, cond, List, [], ◌∷◌, length, Option, Some, is_some, option_and_then, map, sum_by, All, Contains}
+use Rattle.std.specs.Prelude.{◌≡◌, ℕ, ◌≤◌, ◌==◌, Bool, cond, List, [], ◌∷◌, length, Some, is_some, option_and_then, map, sum_by, All, Contains}
 use Rattle.cache_model.specs.declared.files.FileCount.{FileCount}
 use Rattle.cache_model.specs.Files.{bytes_in}
 use Rattle.cache_model.specs.Hash.{hash}

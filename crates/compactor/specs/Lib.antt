@@ -1,11 +1,14 @@
+pub mod Copying
 pub mod Counting
 pub mod Entering
 pub mod Figuring
 pub mod Finding
 pub mod Indexing
 pub mod Looking
+pub mod Passing
 pub mod Raising
 pub mod Rows
+pub mod Sizing
 pub mod Stepping
 pub mod Walking
 pub mod Recounting

@@ -2,14 +2,18 @@
 //! have yet, and the index.
 #![tactic(auto)]
 
+mod copying;
 mod entering;
 mod finding;
 mod looking;
 mod parts;
+mod passing;
+mod sizing;
 mod stepping;
 mod walking;
 
 pub use parts::Parts;
+pub use sizing::count_written;
 
 #[cfg(test)]
 mod tests;

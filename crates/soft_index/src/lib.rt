@@ -4,7 +4,6 @@
 mod log_store;
 mod opening;
 mod reading;
-mod sizing;
 mod soft_index;
 mod store;
 mod walking;

@@ -19,11 +19,11 @@ ghost use Rattle.soft_index.specs.Laws.{log_holds, log_carries};
 
 use crate::log_store::LogStore;
 use crate::reading::answer_by;
-use crate::sizing::count_written;
 use crate::walking::next_shown;
 use crate::writing::put;
 use cache_disk::Host;
 use cache_model::{Answer, Change, Key, StepKind, StoreFault, Turned};
+use compactor::count_written;
 use store_trait::{FileStore, Keyed, ReadStore, Store};
 
 impl Keyed for LogStore {

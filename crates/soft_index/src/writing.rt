@@ -13,9 +13,9 @@ ghost use Rattle.record_format.specs.Changing.{item_by};
 ghost use Rattle.soft_index.specs.Store.{IsPutIn, IsSpentBy, LogStands, Queues, closes, content_of, log_facts, log_means, number, spent_by};
 
 use crate::log_store::LogStore;
-use crate::sizing::count_written;
 use cache_disk::Host;
 use cache_model::{Change, Key, StoreFault};
+use compactor::count_written;
 
 /// The key that a change changes.
 pub(crate) fn key_of(change: &Change) -> &Key

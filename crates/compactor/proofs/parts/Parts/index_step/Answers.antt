@@ -1,7 +1,5 @@
-use Rattle.std.proofs.Common.{◌≡◌, Some, sym, ◌∙◌, ap}
-use Rattle.std.specs.Prelude.{slice_get}
+use Rattle.std.proofs.Common.{◌∙◌, ap}
 use Rattle.cache_model.specs.Hash.{hash}
-use Rattle.temporary_table.specs.declared.requests.Request.{Request}
 use Rattle.temporary_table.specs.Queue.{key_of}
 use Rattle.tree_index.specs.Index.{Index}
 use Rattle.compactor.specs.Counting.{counts_in}

@@ -1,11 +1,11 @@
-use Rattle.std.proofs.Common.{◌≡◌, ℕ, Bool, true, List, Option, Some, None, IsTrue, sym, ◌∙◌, ap, subst}
+use Rattle.std.proofs.Common.{◌≡◌, ℕ, Bool, true, IsTrue, sym, ◌∙◌, ap, subst}
 use Rattle.std.specs.Prelude.{◌↔◌, Any}
 use Rattle.cache_model.specs.Hash.{hash}
 use Rattle.tree_index.specs.Index.{Entries, entries_of}
 use Rattle.compactor.specs.Counting.{counts_in}
 use Rattle.compactor.specs.Entering.{Row, stands_at}
 use Rattle.compactor.specs.Looking.{TellsNewest}
-use Rattle.compactor.proofs.Told.{StandsAmong, told_among, told_placed}
+use Rattle.compactor.proofs.Told.{told_among, told_placed}
 use Rattle.compactor.proofs.parts.Parts.is_newest.Goals as goal
 
 pub returns-in-Some-clause-newest : goal.returns-in-Some-clause-newest

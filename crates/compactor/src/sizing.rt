@@ -1,6 +1,6 @@
 // Keeping the sizes of the data files.
 ghost use Rattle.std.specs.Prelude.{◌≡◌};
-ghost use Rattle.soft_index.specs.Counted.{CountsWritten, RaisesTo, closed_size, closed_tail, sized_tail};
+ghost use Rattle.compactor.specs.Sizing.{CountsWritten, RaisesTo, closed_size, closed_tail, sized_tail};
 
 use file_stats::Stats;
 
@@ -48,7 +48,7 @@ fn raise_to(stats: &mut Stats, end: Option<(u32, u64)>)
 
 /// Brings the sizes of the files up to what was written, by the log's current file before and after it: of one that was
 /// closed, where something in it waited, and of the current one, which may be new.
-pub(crate) fn count_written(
+pub fn count_written(
     stats: &mut Stats,
     before: Option<(u32, u64, bool)>,
     after: Option<(u32, u64, bool)>,
