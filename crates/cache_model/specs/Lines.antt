@@ -11,7 +11,7 @@ use Rattle.cache_model.specs.declared.entries.Lifespan.TheVariants.{Endless, Of}
 use Rattle.cache_model.specs.declared.commands.Command.{Command}
 use Rattle.cache_model.specs.declared.commands.Command.TheVariants.{At, Put, PutAbsent, Replace, ReplaceIf, Get, Has, Remove, RemoveIf, Size, Keys, Clear, Step, Evict, Sync, Stats, Stop, Halt}
 use Rattle.cache_model.specs.declared.commands.StepKind.{StepKind}
-use Rattle.cache_model.specs.declared.commands.StepKind.TheVariants.{Index, Rotate}
+use Rattle.cache_model.specs.declared.commands.StepKind.TheVariants.{Index, Compact, Rotate}
 use Rattle.cache_model.specs.Replies.{Refusal, long, syntax, key_length, value_length, ttl}
 use Rattle.cache_model.specs.Tokens.{token_value}
 
@@ -109,7 +109,7 @@ takes_exchange make (key ∷ words) = option_and_then (λ k. takes_entry (make k
 
 -- the steps that a line can ask for: each one's name
 abbrev pub step_rows : List (List ℕ × StepKind)
-step_rows = (codes "index", Index) ∷ (codes "rotate", Rotate) ∷ []
+step_rows = (codes "index", Index) ∷ (codes "compact", Compact) ∷ (codes "rotate", Rotate) ∷ []
 
 -- a step's name
 abbrev pub takes_step : Arguments

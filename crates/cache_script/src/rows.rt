@@ -103,6 +103,8 @@ pub fn step_of(name: &[u8]) -> Option<StepKind>
 {
     if name == b"index".as_slice() {
         Some(StepKind::Index)
+    } else if name == b"compact".as_slice() {
+        Some(StepKind::Compact)
     } else if name == b"rotate".as_slice() {
         Some(StepKind::Rotate)
     } else {

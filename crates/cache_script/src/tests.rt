@@ -13,7 +13,7 @@ use std::process::Abort;
 use std::test::Fail;
 
 /// Lines without keys, and what is read of them.
-const SOLE_LINES: [(&str, &str); 44] = [
+const SOLE_LINES: [(&str, &str); 48] = [
     ("at 0", "Ok(At(0))"),
     ("at 00000000000000000007", "Ok(At(7))"),
     ("at 000000000000000000007", "Err(Syntax)"),
@@ -44,7 +44,11 @@ const SOLE_LINES: [(&str, &str); 44] = [
     ("step Index", "Err(Syntax)"),
     ("step inde", "Err(Syntax)"),
     ("step flush", "Err(Syntax)"),
-    ("step compact", "Err(Syntax)"),
+    ("step compact", "Ok(Step(Compact))"),
+    ("step compac", "Err(Syntax)"),
+    ("step Compact", "Err(Syntax)"),
+    ("step compact x", "Err(Syntax)"),
+    ("compact", "Err(Syntax)"),
     ("step evict", "Err(Syntax)"),
     ("step reap", "Err(Syntax)"),
     ("stop", "Ok(Stop)"),
