@@ -11,6 +11,7 @@ use Rattle.cache_model.specs.declared.faults.Damage.{Damage}
 use Rattle.cache_model.specs.declared.commands.StepKind.{StepKind}
 use Rattle.cache_model.specs.declared.commands.StepKind.TheVariants.{Index, Flush, Compact, Evict, Reap, Rotate}
 use Rattle.cache_model.specs.declared.replies.Turned.{Turned}
+use Rattle.cache_model.specs.declared.replies.Turned.TheVariants.{Idle}
 use Rattle.cache_model.specs.Hash.{precedes, follows}
 use Rattle.cache_disk.specs.State.{HostState, Rose, Silent}
 use Rattle.store_trait.specs.Meaning.{Reading, Content, read_in, seen, key_of, changed, Numbers, StoreFacts, StoreState}
@@ -58,16 +59,17 @@ pub record DrawsOne {T : Type 0} (old new : StoreFacts) (result : Result T Store
   pub numbers : OnOk result (IsNumbered 1 old.numbers new.numbers)
   pub refused : IsErrOf result fault.Memory → new.spoilt ≡ false → DrawsNone old new
 
--- A turn of a compaction takes no number, and may make one file, but none where the answer is Memory and the store is
--- unspoilt.
-pub record MakesOne {T : Type 0} (old new : StoreFacts) (result : Result T StoreFault) : Type 0 where
+-- A turn of a compaction takes no number, and may make one file, but none where it is idle, nor where the answer is Memory
+-- and the store is unspoilt.
+pub record MakesOne (old new : StoreFacts) (result : Result Turned StoreFault) : Type 0 where
   pub drawn : new.drawn ≤ old.drawn
   pub made : new.made ≤ old.made + 1
-  pub numbers : IsNumbered 0 old.numbers new.numbers
+  pub numbers : OnOk result (IsNumbered 0 old.numbers new.numbers)
+  pub idle : IfOk result (λ turned. turned ≡ Idle → new.made ≤ old.made)
   pub refused : IsErrOf result fault.Memory → new.spoilt ≡ false → DrawsNone old new
 
 -- A step takes no number, and only that of a compaction may make a file.
-abbrev pub DrawsBy : {T : Type 0} → StepKind → StoreFacts → StoreFacts → Result T StoreFault → Type 0
+abbrev pub DrawsBy : StepKind → StoreFacts → StoreFacts → Result Turned StoreFault → Type 0
 DrawsBy Compact old new result = MakesOne old new result
 DrawsBy Index old new result = DrawsNone old new
 DrawsBy Flush old new result = DrawsNone old new
@@ -153,7 +155,7 @@ pub record Stepped (step : StepKind) (f g : StoreFacts) (old new : StoreState) (
   pub acts : Acts f g old new before after moment old.content result
   pub content : OnOk result (IsKept f moment old.content new.content)
   pub marks : OnOk result (IsKeptAtMarks f after.turn old new)
-  pub parts : IfOk result (λ turned. old.steps step turned f.parts g.parts)
+  pub parts : IfOk result (λ turned. f.steps before.files step turned f.parts g.parts)
 
 -- The call of `figures` kept the content, at the call's moment and at the mark of each pair that may be left then, and
 -- counted the files as they read.

@@ -29,6 +29,7 @@ heap_facts store = record {
   moves = λ change a b. b ≡ a;
   empties = λ a b. b ≡ a;
   room = λ a b. b ≡ a;
+  steps = λ files kind turned a b. (turned ≡ Idle) × (b ≡ a);
   counts = λ files figures a b. (figures ≡ (0, 0, 0)) × (b ≡ a);
 }
 
@@ -44,7 +45,6 @@ heap_means store host = record {
   spent = λ s. ⊥;
   most = λ key. 0;
   fetches = λ key. ⊥;
-  steps = λ kind turned a b. (turned ≡ Idle) × (b ≡ a);
 }
 
 -- it stands for the same on a later host
@@ -62,7 +62,6 @@ heap_carries store host later le = record {
   spent = λ s. (λ x. x, λ x. x);
   most = λ key. refl;
   fetches = λ key. (λ x. x, λ x. x);
-  steps = λ kind turned a b. (λ x. x, λ x. x);
 }
 
 -- its content is possible

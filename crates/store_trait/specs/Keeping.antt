@@ -90,6 +90,7 @@ pub record SameStore (old new : StoreFacts) : Type 0 where
   pub moves : (change : Change) (a b : List Row) → (new.moves change a b ↔ old.moves change a b)
   pub empties : (a b : List Row) → (new.empties a b ↔ old.empties a b)
   pub room : (a b : List Row) → (new.room a b ↔ old.room a b)
+  pub steps : (files : Image) (kind : StepKind) (turned : Turned) (a b : List Row) → (new.steps files kind turned a b ↔ old.steps files kind turned a b)
   pub counts : (files : Image) (figures : ℕ × ℕ × ℕ) (a b : List Row) → (new.counts files figures a b ↔ old.counts files figures a b)
 
 -- What holds between two calls. The content is among what may be left, of each key and of all together, with each mark
@@ -115,4 +116,3 @@ pub record Carries (from to : ℕ) (old new : StoreState) : Type 0 where
   pub spent : (s : Spent) → (new.spent s ↔ old.spent s)
   pub most : (key : List ℕ) → new.most key ≡ old.most key
   pub fetches : (key : List ℕ) → (new.fetches key ↔ old.fetches key)
-  pub steps : (kind : StepKind) (turned : Turned) (a b : List Row) → (new.steps kind turned a b ↔ old.steps kind turned a b)

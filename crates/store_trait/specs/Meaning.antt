@@ -106,6 +106,8 @@ pub record StoreFacts : Type 1 where
   pub empties : List Row → List Row → Type 0
   -- how they go on by the steps for room that a call takes before it is refused for want of memory
   pub room : List Row → List Row → Type 0
+  -- how they go on by a step of a kind with an answer, where the files read so
+  pub steps : Image → StepKind → Turned → List Row → List Row → Type 0
   -- how they go on by a count of the files as they read, which gives how many there are, how many bytes they have, and
   -- how many of these are live
   pub counts : Image → ℕ × ℕ × ℕ → List Row → List Row → Type 0
@@ -130,5 +132,3 @@ pub record StoreState : Type 1 where
   pub most : List ℕ → ℕ
   -- whether a load that finds the key's entry asks for its bytes
   pub fetches : List ℕ → Type 0
-  -- how the parts go on by a step of a kind with an answer
-  pub steps : StepKind → Turned → List Row → List Row → Type 0
