@@ -4,7 +4,7 @@ ghost use Rattle.cache_model.specs.Items.{Item, IsRecord, spelling};
 ghost use Rattle.cache_disk.specs.Calls.{HasStoreCause};
 ghost use Rattle.data_file.specs.Appending.{IsRecordSpelling};
 ghost use Rattle.append_log.specs.Current.{closes_before, files_of, file_spent};
-ghost use Rattle.append_log.specs.Calls.{IsSpentBy, PutsBy, TakesFile};
+ghost use Rattle.append_log.specs.Calls.{Goes, IsSpentBy, PutsBy, TakesFile};
 ghost use Rattle.append_log.specs.Standing.{Held, IsStanding, Stands};
 ghost use Rattle.compactor.specs.Copying.{Copies};
 ghost use Rattle.compactor.specs.Indexing.{AreUsable};
@@ -31,6 +31,9 @@ impl Parts {
         requires moment { moment < 2 ^ 61 }
         requires stands { IsTrue H.tells → IsStanding (files_of self.old.log) (H.state host.old) }
         ensures copied { IfOk result (Copies key from gone (length item.now) moment self.old self.new) }
+        ensures bits { self.new.tree.bits ≡ self.old.tree.bits }
+        ensures limit { self.new.requests.limit ≡ self.old.requests.limit }
+        ensures goes { Goes (files_of self.old.log) (files_of self.new.log) result }
         ensures takes { TakesFile (files_of self.old.log) (files_of self.new.log) }
         ensures told { IsTrue H.tells → (held : Held) (one : Item) → Stands (files_of self.old.log) (H.state host.old) held → IsRecord one → item.now ≡ spelling one
             → PutsBy (closes_before (files_of self.old.log) (length item.now)) one moment held (files_of self.old.log) (files_of self.new.log) (H.state host.old) (H.state host.new) result }
@@ -76,6 +79,9 @@ impl Parts {
         requires stands { IsTrue H.tells → IsStanding (files_of self.old.log) (H.state host.old) }
         ensures copied { IfOk result (Copies key from gone (length item.now) moment self.old self.new) }
         ensures spoilt { OnErr result (self.new.spoilt ≡ true) }
+        ensures bits { self.new.tree.bits ≡ self.old.tree.bits }
+        ensures limit { self.new.requests.limit ≡ self.old.requests.limit }
+        ensures goes { Goes (files_of self.old.log) (files_of self.new.log) result }
         ensures takes { TakesFile (files_of self.old.log) (files_of self.new.log) }
         ensures told { IsTrue H.tells → (held : Held) (one : Item) → Stands (files_of self.old.log) (H.state host.old) held → IsRecord one → item.now ≡ spelling one
             → PutsBy (closes_before (files_of self.old.log) (length item.now)) one moment held (files_of self.old.log) (files_of self.new.log) (H.state host.old) (H.state host.new) result }

@@ -13,6 +13,7 @@ mod stepping;
 mod walking;
 
 pub use parts::Parts;
+pub use passing::next_record;
 pub use sizing::count_written;
 
 #[cfg(test)]

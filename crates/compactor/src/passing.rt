@@ -25,10 +25,7 @@ fn is_record(item: &OwnItem) -> bool
 }
 
 /// The next record of the counted frames, None behind the last. The ends of frames are passed over.
-pub(crate) fn next_record<H: Host>(
-    scan: &mut Scan,
-    host: &mut H,
-) -> Result<Option<Scanned>, StoreFault>
+pub fn next_record<H: Host>(scan: &mut Scan, host: &mut H) -> Result<Option<Scanned>, StoreFault>
     requires sound { is_spoilt scan.old ≡ false }
     requires name { IsFileName (scanned_name scan.old) }
     requires scans { IsTrue H.tells → IsScanOf scan.old (bytes_in (H.state host.old).files (scanned_name scan.old)) }

@@ -1,5 +1,5 @@
 -- What is found says just what the files hold.
-use Rattle.std.proofs.Common.{◌≡◌, ℕ, List, [], ◌∷◌, ◌++◌, Contains, Option, IsSome, Result, Ok, Err, IfOk, refl, sym, ap, subst, ◌∙◌}
+use Rattle.std.proofs.Common.{◌≡◌, ℕ, ◌^◌, ◌<◌, ◌≤◌, List, [], ◌∷◌, ◌++◌, All, Contains, Option, IsSome, Result, Ok, Err, IfOk, refl, sym, ap, subst, ◌∙◌}
 use Rattle.std.specs.Prelude.{◌↔◌}
 use Rattle.std.specs.List.Sorted.{IsStrictlyIncreasing}
 use Rattle.cache_model.specs.declared.files.FileCount.{FileCount}
@@ -12,10 +12,10 @@ use Rattle.cache_model.specs.Images.{IsMark, IsSound, log_name}
 use Rattle.cache_model.specs.Numbers.{IsNextFile, IsNextSequence}
 use Rattle.cache_model.proofs.Members.{all-among, map-among}
 use Rattle.file_stats.specs.declared.file_list.Found.{Found}
-use Rattle.tree_index.specs.Index.{Entries}
+use Rattle.tree_index.specs.Index.{Entries, Index}
 use Rattle.rebuild.specs.declared.figures.Figures.{Figures}
-use Rattle.rebuild.specs.Listing.{IsBehind, IsFirstDamageOf}
-use Rattle.rebuild.specs.Rebuilt.{AreRowsOf, IsIndexOf, IsRebuilt, IsRowOf}
+use Rattle.rebuild.specs.Listing.{IsBehind, IsFirstDamageOf, IsNumber}
+use Rattle.rebuild.specs.Rebuilt.{AreRowsOf, IsBounded, IsInOrder, IsIndexOf, IsRebuilt, IsRowOf}
 use Rattle.rebuild.specs.Rows.{numbers_of}
 use Rattle.rebuild.specs.Taking.{Counted, IsRowAmong, StandsForItems, counted_in, counted_of}
 use Rattle.rebuild.proofs.ReadRecords.{bytes-same}
@@ -87,6 +87,17 @@ found-rebuilt files numbers bits entries figures next found each ascend are stan
   next_file = subst (IsNextFile files) (sym file) (is-next-file files numbers each next behind);
   next_seq = subst (IsNextSequence files) (sym seq) (is-next files numbers each figures.next_seq figures.mark stands.others);
   mark = subst (IsMark files) (sym mark) (has-mark files numbers each figures.next_seq figures.mark stands.others);
+}
+
+-- what is found is in its bounds
+pub found-bounded : (bits : ℕ) (tree : Index) (numbers : List ℕ) (figures : Figures) (next : ℕ) (found : Found) → IsInOrder bits tree → All IsNumber numbers → numbers_of figures.rows ≡ numbers → (1 ≤ next) × (next ≤ 4294967295)
+    → found.files ≡ figures.rows → found.next_file ≡ next → found.next_seq ≡ figures.next_seq → found.mark ≡ figures.mark → IsBounded bits tree found
+found-bounded bits tree numbers figures next found order within are range rows file seq mark = record {
+  index = order;
+  files = subst (λ (l : List ℕ). All IsNumber l) (sym (ap numbers_of rows ∙ are)) within;
+  next_file = subst (λ n. (1 ≤ n) × (n ≤ 4294967295)) (sym file) range;
+  next_seq = subst (λ n. (1 ≤ n) × (n ≤ 2 ^ 62)) (sym seq) (figures.next_some, figures.next_fits);
+  mark = subst (λ n. n < 2 ^ 61) (sym mark) figures.mark_fits;
 }
 
 -- four facts of an answer give one

@@ -95,9 +95,10 @@ pub record IsInOrder (bits : ℕ) (tree : Index) : Type 0 where
   pub ordered : AreOrdered tree.entries
   pub numbered : AreNumbered tree.entries
 
--- The index is in order, and the numbers that were found are in their ranges.
+-- The index is in order, and the numbers that were found are in their ranges: so is that of each file.
 pub record IsBounded (bits : ℕ) (tree : Index) (found : Found) : Type 0 where
   pub index : IsInOrder bits tree
+  pub files : All IsNumber (numbers_of found.files)
   pub next_file : (1 ≤ found.next_file) × (found.next_file ≤ 4294967295)
   pub next_seq : (1 ≤ found.next_seq) × (found.next_seq ≤ 2 ^ 62)
   pub mark : found.mark < 2 ^ 61

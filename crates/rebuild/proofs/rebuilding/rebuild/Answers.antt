@@ -1,12 +1,12 @@
-use Rattle.std.proofs.Common.{◌≡◌, List, ℕ, subst, sym, ◌∙◌}
+use Rattle.std.proofs.Common.{◌≡◌, All, List, ℕ, subst, sym, ◌∙◌}
 use Rattle.std.specs.List.Sorted.{IsStrictlyIncreasing}
 use Rattle.std.proofs.lemmas.Result.{IfOk-weaker}
 use Rattle.cache_model.specs.Images.{IsSound}
 use Rattle.file_stats.specs.declared.file_list.Found.{Found}
-use Rattle.rebuild.specs.Listing.{IsBehind}
-use Rattle.rebuild.specs.Rebuilt.{IsRebuilt}
+use Rattle.rebuild.specs.Listing.{IsBehind, IsNumber}
+use Rattle.rebuild.specs.Rebuilt.{IsBounded, IsRebuilt}
 use Rattle.rebuild.proofs.ReadRecords.{same-err}
-use Rattle.rebuild.proofs.Rebuilds.{all-numbers, all-numbers-same, damage-before, found-rebuilt, if-ok-four, sound-before, taken-before}
+use Rattle.rebuild.proofs.Rebuilds.{all-numbers, all-numbers-same, damage-before, found-bounded, found-rebuilt, if-ok-four, sound-before, taken-before}
 use Rattle.rebuild.proofs.WholeFiles.{first-damage, is-sound}
 use Rattle.rebuild.proofs.rebuilding.rebuild.Goals as goal
 
@@ -36,6 +36,17 @@ returns-in-Ok-clause-rebuilt g c told =
     if-ok-four c.found.result (λ (found : Found). found.files ≡ figures.rows) (λ found. found.next_file ≡ next) (λ found. found.next_seq ≡ figures.next_seq) (λ found. found.mark ≡ figures.mark) (IsRebuilt a.files c.args.bits entries)
     c.found.ensures.rows c.found.ensures.file c.found.ensures.next c.found.ensures.mark
     (λ found rows file seq mark. found-rebuilt a.files numbers c.args.bits entries figures next found each ascend c.in-Ok.ensures.numbers stands behind rows file seq mark)
+
+pub returns-in-Ok-clause-bounded : goal.returns-in-Ok-clause-bounded
+returns-in-Ok-clause-bounded g c =
+    let numbers = c.deref-2.result.now in
+    let figures = c.in-Ok.figures in
+    let next = c.number_behind.result in
+    let tree = c.settle_all.new.tree in
+    let within = subst (λ (l : List ℕ). All IsNumber l) (sym c.deref-2.ensures.value) c.in_ok-numbers.ensures.within in
+    if-ok-four c.found.result (λ (found : Found). found.files ≡ figures.rows) (λ found. found.next_file ≡ next) (λ found. found.next_seq ≡ figures.next_seq) (λ found. found.mark ≡ figures.mark) (IsBounded c.args.bits tree)
+    c.found.ensures.rows c.found.ensures.file c.found.ensures.next c.found.ensures.mark
+    (λ found rows file seq mark. found-bounded c.args.bits tree numbers figures next found c.in-Ok.ensures.in_order within c.in-Ok.ensures.numbers c.number_behind.ensures.range rows file seq mark)
 
 pub returns-in-Ok-clause-undamaged : goal.returns-in-Ok-clause-undamaged
 returns-in-Ok-clause-undamaged g c told =

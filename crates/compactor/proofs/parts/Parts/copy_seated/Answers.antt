@@ -1,9 +1,11 @@
-use Rattle.std.proofs.Common.{Ok, Err, List, ℕ, length, sym, subst}
+use Rattle.std.proofs.Common.{◌≡◌, Ok, Err, List, ℕ, ap, length, refl, sym, subst}
 use Rattle.std.specs.Prelude.{Result}
 use Rattle.cache_model.specs.declared.files.Place.{Place}
 use Rattle.cache_model.specs.declared.faults.StoreFault.{StoreFault}
+use Rattle.cache_model.specs.declared.faults.StoreFault.TheVariants as fault
 use Rattle.append_log.specs.declared.log_calls.Log.{Log}
-use Rattle.append_log.specs.Current.{closes_before, files_of, tail_of}
+use Rattle.append_log.specs.declared.log_files.LogFiles.{LogFiles}
+use Rattle.append_log.specs.Current.{IsUsable, closes_before, files_of, size_limit, store_of, tail_of}
 use Rattle.append_log.specs.Calls.{Goes, IsCopied, PutsBy}
 use Rattle.append_log.specs.Standing.{Stands}
 use Rattle.file_stats.specs.Figures.{Figures}
@@ -55,3 +57,37 @@ returns-in-Err-copy_item-clause-told g c told held one stands record_is spelled 
     let result : Result Place StoreFault = Err c.in-Err-copy_item.fault in
     subst (λ (l : Log). Stands (files_of l) a held → PutsBy (closes_before (files_of l) size) one c.args.moment held (files_of l) (files_of c.copy_item.new.self) a b result) c.seat.ensures.seats.log
     (λ s. c.in-Err-copy_item.ensures.told told held one s record_is spelled) stands
+
+-- where nothing was written the log is as it was
+refused : (old new : LogFiles) → new ≡ old → IsUsable old → Goes {R = Place} old new (Err fault.Memory)
+refused old new same usable = record {
+  store = ap store_of same;
+  limit = ap size_limit same;
+  usable = λ sound. subst IsUsable (sym same) usable;
+  ok = tt;
+  refused = λ sound. (refl, same);
+  spent = λ s err. cc;
+  damaged = λ d err. cc;
+}
+
+pub returns-in_default-clause-goes : goal.returns-in_default-clause-goes
+returns-in_default-clause-goes g c = refused (files_of c.args.self.now.log) (files_of c.args.self.now.log) refl c.requires.usable.log
+
+pub returns-in_default-reserve-clause-goes : goal.returns-in_default-reserve-clause-goes
+returns-in_default-reserve-clause-goes g c = refused (files_of c.args.self.now.log) (files_of c.args.self.now.log) refl c.requires.usable.log
+
+pub returns-in-Err-clause-goes : goal.returns-in-Err-clause-goes
+returns-in-Err-clause-goes g c =
+    let old = c.args.self.now.log in
+    subst (λ (f : StoreFault). Goes {R = Place} (files_of old) (files_of c.seat.new.self.log) (Err f)) (sym c.in-Err.ensures.memory) (refused (files_of old) (files_of c.seat.new.self.log) (ap files_of c.seat.ensures.seats.log) c.requires.usable.log)
+
+pub returns-in-Ok-copy_item-clause-goes : goal.returns-in-Ok-copy_item-clause-goes
+returns-in-Ok-copy_item-clause-goes g c =
+    let result : Result Place StoreFault = Ok c.in-Ok-copy_item.place in
+    subst (λ (l : Log). Goes (files_of c.args.self.now.log) (files_of l) result) (sym c.swap.ensures.notes.queues.log)
+    (subst (λ (l : Log). Goes (files_of l) (files_of c.copy_item.new.self) result) c.seat.ensures.seats.log c.in-Ok-copy_item.ensures.goes)
+
+pub returns-in-Err-copy_item-clause-goes : goal.returns-in-Err-copy_item-clause-goes
+returns-in-Err-copy_item-clause-goes g c =
+    let result : Result Place StoreFault = Err c.in-Err-copy_item.fault in
+    subst (λ (l : Log). Goes (files_of l) (files_of c.copy_item.new.self) result) c.seat.ensures.seats.log c.in-Err-copy_item.ensures.goes
