@@ -31,6 +31,8 @@ use Rattle.soft_index.specs.declared.log_store.LogStore.{LogStore}
 use Rattle.soft_index.specs.Store.{Holds, LogStands, content_of, log_facts, log_means, number}
 use Rattle.soft_index.specs.Walking.{IsNextShown, IsShownBehind, ShowsNext}
 use Rattle.soft_index.proofs.Changes.{as_was, parts_content, same_rows, still_leaves, still_stands}
+use Rattle.soft_index.specs.Growing.{Grows}
+use Rattle.soft_index.proofs.Growing.{grows_as_was}
 use Rattle.soft_index.proofs.Images.{call_acts}
 use Rattle.soft_index.proofs.There.{there_by}
 
@@ -131,6 +133,11 @@ module _ (S T : LogStore) (a b : HostState) (frames : List Frame) (records : Lis
       (frames, records, still_stands S T a b frames records stands (as_was S T a.files b.files (looks.log unspoilt) (looks.table, looks.tree, looks.requests) (ap (λ (f : Figures). f.rows) looks.stats) (λ n. still.files (log_name n))) (omega (arith, late, latest)) still))
       damaged (λ s err. absurd (unspent s err))
       (λ err unspoilt. (looks_content looked looks, inl (looks_rows looked looks unspoilt)))
+
+  -- What it held goes on.
+  pub looks_grows : {R : Type 0} (result : Result R StoreFault) → Looks S.parts T.parts result → T.parts.spoilt ≡ false → Grows S T a b
+  looks_grows result looks unspoilt =
+      grows_as_was S T a b (as_was S T a.files b.files (looks.log unspoilt) (looks.table, looks.tree, looks.requests) (ap (λ (f : Figures). f.rows) looks.stats) (λ n. still.files (log_name n))) (omega (arith, late, latest)) still
 
   -- a load
 

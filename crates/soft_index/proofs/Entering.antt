@@ -7,7 +7,7 @@ use Rattle.cache_model.specs.declared.files.Place.{Place}
 use Rattle.cache_model.specs.Files.{Image}
 use Rattle.cache_model.specs.Items.{Item, spelling}
 use Rattle.cache_model.specs.DataFiles.{Frame}
-use Rattle.cache_model.specs.Images.{key_of, sequence_of}
+use Rattle.cache_model.specs.Images.{IsNoNewer, key_of, sequence_of}
 use Rattle.cache_model.proofs.Spelled.{spelling-some}
 use Rattle.cache_disk.specs.State.{HostState}
 use Rattle.cache_disk.specs.State as disk
@@ -20,16 +20,16 @@ use Rattle.append_log.proofs.Places.{in_written}
 use Rattle.append_log.specs.declared.log_calls.Log.{Log}
 use Rattle.append_log.specs.Current.{IsLogOf, files_of, store_of, tail_by, tail_of}
 use Rattle.append_log.specs.Current.{IsUsable as IsUsableLog}
-use Rattle.append_log.specs.Calls.{Goes, IsPut}
+use Rattle.append_log.specs.Calls.{Goes}
 use Rattle.compactor.specs.declared.parts.Parts.{Parts}
 use Rattle.compactor.specs.Counting.{Adds, Counts, CountSame, IsFileNumber, Kept, counts_in}
 use Rattle.cache_model.specs.declared.index.IndexKey.{IndexKey}
 use Rattle.cache_model.specs.declared.index.IndexValue.{IndexValue}
 use Rattle.temporary_table.specs.Queue.{Queue}
 use Rattle.tree_index.specs.Index.{AreOrdered, Index, value_at}
-use Rattle.compactor.specs.Indexing.{AllFind, AreApart, AreIndexed, AreUsable, IsEntryOf, IsNewestEntry, IsPutToFile, is_removal, last_put}
+use Rattle.compactor.specs.Indexing.{AllFind, AreApart, AreIndexed, AreUsable, IsEntryOf, IsNewestEntry, IsPutToFile, last_put}
 use Rattle.compactor.specs.Indexing.{IsPut as IsPutBy}
-use Rattle.compactor.specs.Stepping.{Notes, Seats}
+use Rattle.compactor.specs.Stepping.{IsPlaceOf, Seats}
 use Rattle.compactor.proofs.Rows.{reading_once}
 use Rattle.store_trait.specs.Meaning.{read_in, changed}
 use Rattle.store_trait.specs.Meaning.{key_of as change_key}
@@ -40,7 +40,7 @@ use Rattle.soft_index.specs.declared.log_store.LogStore.{LogStore}
 use Rattle.soft_index.specs.Counted.{AreCounted, CountsWritten}
 use Rattle.soft_index.specs.Store.{Holds, LogStands, MakesRoom, Queues, content_of, current_of, item_by, log_facts, next_of, number, row_of, writer}
 use Rattle.soft_index.specs.Laws.{reading-same}
-use Rattle.soft_index.proofs.Images.{holds_more, holds_new, holds_only, item_key, item_seq, reading_more}
+use Rattle.soft_index.proofs.Images.{holds_more, holds_new, holds_only, item_seq, reading_more}
 use Rattle.soft_index.proofs.Changes.{IsAsWas, current_by_tail, parts_counted}
 use Rattle.soft_index.proofs.Indexing.{indexed_content, indexed_stands}
 use Rattle.soft_index.proofs.There.{there_by}
@@ -63,7 +63,7 @@ seats_indexed key old new counts seats is = record {
 -- a record more
 
 -- each item has its place in front of the next one's
-placed_below : (frames : List Frame) (records : List Item) (at : ℕ) (item : Item) → Contains (placed_of frames records) (at, item) → at < next_place frames records
+pub placed_below : (frames : List Frame) (records : List Item) (at : ℕ) (item : Item) → Contains (placed_of frames records) (at, item) → at < next_place frames records
 placed_below frames records at item within =
     let spelled = in_written frames records at item within in
     let long = length-drop at (written frames records) in
@@ -71,32 +71,42 @@ placed_below frames records at item within =
     let all : next_place frames records ≡ length (written frames records) + length (due_version frames records) = next_place-is frames records ∙ length-append (written frames records) (due_version frames records) in
     omega (arith, long, whole, all, spelling-some item)
 
+-- nothing stands where the next one will
+pub placed_fresh : (file : ℕ) (frames : List Frame) (records : List Item) (files : Image) (item : Item) → Holds file (placed_of frames records) files file (next_place frames records) item → ⊥
+placed_fresh file frames records files item holds = ⊎_elim
+    (λ here. omega (arith, placed_below frames records (next_place frames records) item here.1))
+    (λ apart. apart.0 refl)
+    holds
+
 -- where the next record stands
 pub next_at : (over : Bool) (frames : List Frame) (records : List Item) (place : Place) → place.at ≡ (if over then 2 else next_place frames records) → place.at ≡ next_place (if over then [] else frames) (if over then [] else records)
 next_at true frames records place is = is
 next_at false frames records place is = is
 
--- the record of a change behind all that the file holds
-pub adds_one : (file next : ℕ) (frames : List Frame) (records : List Item) (files : Image) (change : Change)
-    → ((n a : ℕ) (item : Item) (key : List ℕ) → Holds file (placed_of frames records) files n a item → key_of item ≡ Some key → sequence_of item < next)
-    → Adds (Holds file (placed_of frames records) files) (Holds file (placed_of frames (records ++ item_by next change ∷ [])) files) (change_key change) file (next_place frames records) (item_by next change)
-adds_one file next frames records files change above = record {
-  fresh = λ other k holds of_key. ⊎_elim
-      (λ here. omega (arith, placed_below frames records (next_place frames records) other here.1))
-      (λ apart. apart.0 refl)
-      holds;
-  kept = λ n a other k holds of_key. holds_more file next frames records files change n a other holds;
-  only = λ n a other k holds of_key. holds_only file next frames records files change n a other holds;
+-- a record behind all that the file holds, which is no older than any other of its key
+pub adds_one : (file : ℕ) (frames : List Frame) (records : List Item) (files : Image) (one : Item) (key : List ℕ) → key_of one ≡ Some key
+    → ((n a : ℕ) (item : Item) → Holds file (placed_of frames records) files n a item → key_of item ≡ Some key → IsNoNewer (sequence_of item, n, a) (sequence_of one, file, next_place frames records))
+    → Adds (Holds file (placed_of frames records) files) (Holds file (placed_of frames (records ++ one ∷ [])) files) key file (next_place frames records) one
+adds_one file frames records files one key of_one no_newer = record {
+  fresh = λ other k holds of_key. placed_fresh file frames records files other holds;
+  kept = λ n a other k holds of_key. holds_more file frames records files one n a other holds;
+  only = λ n a other k holds of_key. holds_only file frames records files one n a other holds;
   newest = record {
-    counted = holds_new file next frames records files change;
-    of_key = item_key next change;
+    counted = holds_new file frames records files one;
+    of_key = of_one;
     newest = λ n a other holds of_key.
         ⊎_elim
-        (λ was. inl (omega (arith, above n a other (change_key change) was of_key, item_seq next change)))
-        (λ one. inr (ap sequence_of one.2, inr (one.0, omega (arith, one.1))))
-        (holds_only file next frames records files change n a other holds);
+        (λ was. no_newer n a other was of_key)
+        (λ is. inr (ap sequence_of is.2, inr (is.0, omega (arith, is.1))))
+        (holds_only file frames records files one n a other holds);
   };
 }
+
+-- the record of a change is the newest of its key
+pub change_newer : (counts : Counts) (file at next : ℕ) (change : Change)
+    → ((n a : ℕ) (item : Item) (key : List ℕ) → counts n a item → key_of item ≡ Some key → sequence_of item < next)
+    → (n a : ℕ) (item : Item) → counts n a item → key_of item ≡ Some (change_key change) → IsNoNewer (sequence_of item, n, a) (sequence_of (item_by next change), file, at)
+change_newer counts file at next change above n a item counted of_key = inl (omega (arith, above n a item (change_key change) counted of_key, item_seq next change))
 
 -- where the same records counted before
 pub adds_after : (before mid after : Counts) (key : List ℕ) (number at : ℕ) (item : Item) → CountSame before mid → Adds mid after key number at item → Adds before after key number at item
@@ -168,57 +178,70 @@ seated_was key S T a frames records reserved stands rows seats late =
     was_by S T a a frames records stands (ap files_of seats.log) (λ kept is. seats_indexed key (record S.parts { stats = reserved }) T.parts (counts_in kept) seats is)
     (parts_counted S.parts T.parts (ap (λ (f : Figures). f.rows) seats.stats ∙ rows) seats.tree) (Stands-same a) late
 
--- There is room for a row, a key has a seat in the parts, the log wrote the record of a change, the statistics were
--- brought up to it, and its place was noted.
-pub record Entered (change : Change) (place : Place) (gone : Bool) (S T : LogStore) : Type 0 where
+-- A place was noted in the parts: one request more waits, and nothing else is done but to the table and the queue.
+pub record IsNoted (old new : Parts) : Type 0 where
+  pub tree : new.tree ≡ old.tree
+  pub stats : new.stats ≡ old.stats
+  pub log : new.log ≡ old.log
+  pub spoilt : new.spoilt ≡ old.spoilt
+  pub limit : new.requests.limit ≡ old.requests.limit
+  pub queued : length new.requests.waiting ≡ length old.requests.waiting + 1
+
+-- There is room for a row, a key has a seat in the parts, the log wrote a record of it, the statistics were brought up to
+-- that, and its place was noted. The parts stand for the record too, where it is a proper one to what counted before.
+pub record Entered (key : List ℕ) (place : Place) (gone : Bool) (proper : Kept → Item → Type 0) (S T : LogStore) : Type 0 where
   pub reserved : Figures
   pub rows : reserved.rows ≡ S.parts.stats.rows
   pub room : 1 ≤ reserved.spare
   pub seated : Parts
   pub log : Log
   pub figures : Figures
-  pub seats : Seats (change_key change) (record S.parts { stats = reserved }) seated
+  pub seats : Seats key (record S.parts { stats = reserved }) seated
   pub counts : CountsWritten (tail_of (files_of S.parts.log)) (tail_of (files_of log)) reserved figures
-  pub notes : Notes (change_key change) place gone (record seated { log = log; stats = figures }) T.parts
-  pub gone_is : gone ≡ is_removal (item_by (next_of S) change)
+  pub noted : IsNoted (record seated { log = log; stats = figures }) T.parts
+  pub usable : AreUsable (record seated { log = log; stats = figures }) → IsFileNumber place.file → AreUsable T.parts
+  pub indexed : (kept more : Kept) (item : Item) → AreIndexed (counts_in kept) seated → proper kept item → Adds (counts_in kept) (counts_in more) key place.file place.at item → IsPlaceOf item place gone
+      → AreIndexed (counts_in more) T.parts
   pub latest : S.latest ≤ T.latest
 
-module _ (change : Change) (place : Place) (gone : Bool) (S T : LogStore) (moment : ℕ) (entered : Entered change place gone S T)
-    (goes : Goes (files_of S.parts.log) (files_of T.parts.log) (Ok place)) (put : IsPut change moment (files_of S.parts.log) (files_of T.parts.log) place) (ready : AreUsable S.parts) where
+module _ (key : List ℕ) (place : Place) (gone : Bool) (proper : Kept → Item → Type 0) (S T : LogStore) (moment : ℕ) (entered : Entered key place gone proper S T)
+    (goes : Goes (files_of S.parts.log) (files_of T.parts.log) (Ok place))
+    (tail : tail_of (files_of T.parts.log) ≡ Some (place.file, place.at + place.length, true))
+    (ready : AreUsable S.parts) where
   main : store_of (files_of T.parts.log) ≡ 0
   main = goes.store ∙ ready.main
 
   usable_log : IsUsableLog (files_of T.parts.log)
   usable_log = goes.usable goes.ok
 
-  at_number : (number T ≡ place.file) × IsFileNumber place.file
-  at_number = current_number (files_of T.parts.log).log (files_of T.parts.log).store (files_of T.parts.log).file (files_of T.parts.log).unsealed (place.file, place.at + place.length, true) usable_log.log put.tail
+  pub at_number : (number T ≡ place.file) × IsFileNumber place.file
+  at_number = current_number (files_of T.parts.log).log (files_of T.parts.log).store (files_of T.parts.log).file (files_of T.parts.log).unsealed (place.file, place.at + place.length, true) usable_log.log tail
 
   pub entered_usable : AreUsable T.parts
   entered_usable =
-      entered.notes.usable
-      (seats_usable (change_key change) S.parts entered.seated entered.log entered.reserved entered.figures entered.seats ready (subst (λ (l : Log). IsUsableLog (files_of l)) entered.notes.log usable_log) (subst (λ (l : Log). store_of (files_of l) ≡ 0) entered.notes.log main))
+      entered.usable
+      (seats_usable key S.parts entered.seated entered.log entered.reserved entered.figures entered.seats ready (subst (λ (l : Log). IsUsableLog (files_of l)) entered.noted.log usable_log) (subst (λ (l : Log). store_of (files_of l) ≡ 0) entered.noted.log main))
       at_number.1
 
   pub entered_limit : T.parts.requests.limit ≡ S.parts.requests.limit
-  entered_limit = entered.notes.limit ∙ ap (λ (q : Queue). q.limit) entered.seats.requests
+  entered_limit = entered.noted.limit ∙ ap (λ (q : Queue). q.limit) entered.seats.requests
 
   pub entered_waiting : length T.parts.requests.waiting ≡ length S.parts.requests.waiting + 1
-  entered_waiting = entered.notes.queued ∙ ap (λ (q : Queue). length q.waiting + 1) entered.seats.requests
+  entered_waiting = entered.noted.queued ∙ ap (λ (q : Queue). length q.waiting + 1) entered.seats.requests
 
   pub entered_bits : T.parts.tree.bits ≡ S.parts.tree.bits
-  entered_bits = ap (λ (t : Index). t.bits) entered.notes.tree ∙ ap (λ (t : Index). t.bits) entered.seats.tree
+  entered_bits = ap (λ (t : Index). t.bits) entered.noted.tree ∙ ap (λ (t : Index). t.bits) entered.seats.tree
 
   pub entered_tree : T.parts.tree ≡ S.parts.tree
-  entered_tree = entered.notes.tree ∙ entered.seats.tree
+  entered_tree = entered.noted.tree ∙ entered.seats.tree
 
   pub entered_counts : CountsWritten (tail_of (files_of S.parts.log)) (tail_of (files_of T.parts.log)) entered.reserved T.parts.stats
   entered_counts =
-      subst (λ (f : Figures). CountsWritten (tail_of (files_of S.parts.log)) (tail_of (files_of T.parts.log)) entered.reserved f) (sym entered.notes.stats)
-      (subst (λ (l : Log). CountsWritten (tail_of (files_of S.parts.log)) (tail_of (files_of l)) entered.reserved entered.figures) (sym entered.notes.log) entered.counts)
+      subst (λ (f : Figures). CountsWritten (tail_of (files_of S.parts.log)) (tail_of (files_of T.parts.log)) entered.reserved f) (sym entered.noted.stats)
+      (subst (λ (l : Log). CountsWritten (tail_of (files_of S.parts.log)) (tail_of (files_of l)) entered.reserved entered.figures) (sym entered.noted.log) entered.counts)
 
   pub entered_spoilt : T.parts.spoilt ≡ S.parts.spoilt
-  entered_spoilt = entered.notes.spoilt ∙ entered.seats.spoilt
+  entered_spoilt = entered.noted.spoilt ∙ entered.seats.spoilt
 
   pub entered_rows : length S.parts.requests.waiting < S.parts.requests.limit → Queues S.parts.requests.limit (log_facts S).parts (log_facts T).parts
   entered_rows room = (
@@ -227,32 +250,32 @@ module _ (change : Change) (place : Place) (gone : Bool) (S T : LogStore) (momen
     place.file,
     refl,
     ap (λ (n : ℕ). row_of n (current_of (writer T) (number T))) (entered_waiting ∙ omega (arith, room))
-        ∙ ap (λ (c : Option ℕ). row_of (min (length S.parts.requests.waiting + 1) S.parts.requests.limit) c) (current_by_tail (writer T) (number T) (files_of T.parts.log).unsealed (place.file, place.at + place.length, true) put.tail),
+        ∙ ap (λ (c : Option ℕ). row_of (min (length S.parts.requests.waiting + 1) S.parts.requests.limit) c) (current_by_tail (writer T) (number T) (files_of T.parts.log).unsealed (place.file, place.at + place.length, true) tail),
   )
 
   -- the parts stand for the record too
-  pub entered_indexed : (a b : HostState) (frames : List Frame) (records : List Item) (over : Bool) → LogStands S a frames records
+  pub entered_indexed : (one : Item) (a b : HostState) (frames : List Frame) (records : List Item) (over : Bool) → LogStands S a frames records
+      → IsPlaceOf one place gone → key_of one ≡ Some key
+      → proper (record { number = number S; items = placed_of frames records; files = a.files }) one
       → CountSame (Holds (number S) (placed_of frames records) a.files) (Holds (number T) (placed_of (if over then [] else frames) (if over then [] else records)) b.files)
+      → ((n at : ℕ) (item : Item) → Holds (number T) (placed_of (if over then [] else frames) (if over then [] else records)) b.files n at item → key_of item ≡ Some key
+      → IsNoNewer (sequence_of item, n, at) (sequence_of one, number T, next_place (if over then [] else frames) (if over then [] else records)))
       → place.at ≡ next_place (if over then [] else frames) (if over then [] else records)
-      → AreIndexed (Holds (number T) (placed_of (if over then [] else frames) ((if over then [] else records) ++ item_by (next_of S) change ∷ [])) b.files) T.parts
-  entered_indexed a b frames records over stands same at =
+      → AreIndexed (Holds (number T) (placed_of (if over then [] else frames) ((if over then [] else records) ++ one ∷ [])) b.files) T.parts
+  entered_indexed one a b frames records over stands is_place of_key is_proper same no_newer at =
       let fs : List Frame = if over then [] else frames in
       let rs : List Item = if over then [] else records in
-      let one : Item = item_by (next_of S) change in
       let before : Kept = record { number = number S; items = placed_of frames records; files = a.files } in
       let after : Kept = record { number = number T; items = placed_of fs (rs ++ one ∷ []); files = b.files } in
-      let adds : Adds (Holds (number T) (placed_of fs rs) b.files) (counts_in after) (change_key change) (number T) (next_place fs rs) one =
-      adds_one (number T) (next_of S) fs rs b.files change (above_after S a frames records (Holds (number T) (placed_of fs rs) b.files) stands same)
+      let adds : Adds (Holds (number T) (placed_of fs rs) b.files) (counts_in after) key (number T) (next_place fs rs) one = adds_one (number T) fs rs b.files one key of_key no_newer in
+      let all : Adds (counts_in before) (counts_in after) key (number T) (next_place fs rs) one =
+      adds_after (counts_in before) (Holds (number T) (placed_of fs rs) b.files) (counts_in after) key (number T) (next_place fs rs) one same adds
       in
-      let all : Adds (counts_in before) (counts_in after) (change_key change) (number T) (next_place fs rs) one =
-      adds_after (counts_in before) (Holds (number T) (placed_of fs rs) b.files) (counts_in after) (change_key change) (number T) (next_place fs rs) one same adds
+      let here : Adds (counts_in before) (counts_in after) key place.file place.at one =
+      subst (λ (n : ℕ). Adds (counts_in before) (counts_in after) key n place.at one) at_number.0
+      (subst (λ (n : ℕ). Adds (counts_in before) (counts_in after) key (number T) n one) (sym at) all)
       in
-      let here : Adds (counts_in before) (counts_in after) (change_key change) place.file place.at one =
-      subst (λ (n : ℕ). Adds (counts_in before) (counts_in after) (change_key change) n place.at one) at_number.0
-      (subst (λ (n : ℕ). Adds (counts_in before) (counts_in after) (change_key change) (number T) n one) (sym at) all)
-      in
-      entered.notes.indexed before after one (seats_indexed (change_key change) (record S.parts { stats = entered.reserved }) entered.seated (counts_in before) entered.seats stands.indexed) here
-      (record { long = put.length_is; gone_is = entered.gone_is })
+      entered.indexed before after one (seats_indexed key (record S.parts { stats = entered.reserved }) entered.seated (counts_in before) entered.seats stands.indexed) is_proper here is_place
 
   -- what it is to the store whatever the host tells
   pub entered_plain : S.parts.spoilt ≡ false → T.latest ≡ moment → T.sync_writes ≡ S.sync_writes → Plainly {T = Unit {0}} (log_facts S) (log_facts T) moment (Ok tt)
@@ -266,6 +289,7 @@ module _ (change : Change) (place : Place) (gone : Bool) (S T : LogStore) (momen
       moves = λ c a b. (subst (λ (n : ℕ). Queues n a b) entered_limit, subst (λ (n : ℕ). Queues n a b) (sym entered_limit));
       empties = λ a b. (λ x. x, λ x. x);
       room = λ a b. (subst (λ (n : ℕ). MakesRoom n a b) entered_limit, subst (λ (n : ℕ). MakesRoom n a b) (sym entered_limit));
+      steps = λ files kind turned a b. (λ x. x, λ x. x);
       counts = λ files figures a b. (λ x. x, λ x. x);
     };
     usable = λ unspoilt. entered_usable;

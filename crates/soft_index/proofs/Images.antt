@@ -1,5 +1,5 @@
 -- What images read, over the calls of the store.
-use Rattle.std.proofs.Common.{◌≡◌, ◌⊎◌, ⊎_elim, inl, inr, ℕ, ◌+◌, ◌≤◌, ◌<◌, ◌==◌, true, false, Bool, cond, List, [], ◌∷◌, ◌++◌, Option, Some, None, Contains, IsSome, refl, sym, ◌∙◌, ap, subst, arith}
+use Rattle.std.proofs.Common.{◌≡◌, ◌⊎◌, ⊎_elim, inl, inr, ℕ, ◌≤◌, ◌<◌, ◌==◌, true, false, Bool, cond, List, [], ◌∷◌, ◌++◌, Option, Some, None, Contains, IsSome, refl, sym, ◌∙◌, ap, subst, arith}
 use Rattle.std.proofs.Math.Nat.{eq-or-lt_of_le}
 use Rattle.std.proofs.lemmas.List.{append-nil}
 use Rattle.std.proofs.lemmas.List.Elements.{Contains-append_left, Contains-push, Contains-push_cases}
@@ -128,34 +128,36 @@ counts_now None file a frames records named is m left = inl (is.0, is.2 m left)
 counts_now (Some log) file a frames records named is m left =
     inr (subst (λ (name : FileName). HasFile name (CountsFrames frames) m) named (counted_now log a frames records is m left))
 
+-- each image counts what is sealed, and nothing else
+module _ (S : LogStore) (a : HostState) (frames : List Frame) (records : List Item) (stands : LogStands S a frames records) (image : Image) (left : a.left a.turn image) where
+  counts_left : Counts (log_name (number S)) frames image
+  counts_left = counts_now (writer S) (number S) a frames records stands.named stands.log.1.current image left
+
+  all_placed : placed_of frames [] ≡ placed_frames 2 frames
+  all_placed = append-nil (placed_frames 2 frames)
+
+  pub sealed_left : (n at : ℕ) (item : Item) → Holds (number S) (placed_of frames []) a.files n at item → IsCounted image n at item
+  sealed_left n at item (inl is) =
+      subst (λ (k : ℕ). IsCounted image k at item) (sym is.0) (here counts_left (subst (λ (l : List (ℕ × Item)). Contains l (at, item)) all_placed is.1))
+    where
+      here : (c : Counts (log_name (number S)) frames image) → Contains (placed_frames 2 frames) (at, item) → IsCounted image (number S) at item
+      here (inl none) within = absurd (no-contained at item frames none.0 within)
+      here (inr has) within = counted-there (number S) at item frames image has within
+  sealed_left n at item (inr other) = record { bytes = other.1.bytes; there = stands.others image left n other.0 ∙ other.1.there; counted = other.1.counted }
+
+  pub left_sealed : (n at : ℕ) (item : Item) → IsCounted image n at item → Holds (number S) (placed_of frames []) a.files n at item
+  left_sealed n at item counted = ⊎_elim
+      (λ is. inl (is, subst (λ (l : List (ℕ × Item)). Contains l (at, item)) (sym all_placed) (counted-within (number S) at item frames image counts_left (subst (λ (k : ℕ). IsCounted image k at item) is counted))))
+      (λ other. inr (other, record { bytes = counted.bytes; there = sym (stands.others image left n other) ∙ counted.there; counted = counted.counted }))
+      (cases_file n (number S))
+
 -- where nothing waits, each image reads as the content
 pub whole_image : (S : LogStore) (a : HostState) (frames : List Frame) → LogStands S a frames [] → (image : Image) → a.left a.turn image → (key : List ℕ) → HasReading (IsCounted image) key (read_in (content_of S a.files) key)
 whole_image S a frames stands image left key =
     reading-same (Holds (number S) (placed_of frames []) a.files) (IsCounted image) key (read_in (content_of S a.files) key)
-    (λ n at item of_key. kept counts n at item)
-    (λ n at item of_key counted. only n at item counted)
+    (λ n at item of_key. sealed_left S a frames [] stands image left n at item)
+    (λ n at item of_key counted. left_sealed S a frames [] stands image left n at item counted)
     (stands.content key)
-  where
-    counts : Counts (log_name (number S)) frames image
-    counts = counts_now (writer S) (number S) a frames [] stands.named stands.log.1.current image left
-
-    all : placed_of frames [] ≡ placed_frames 2 frames
-    all = append-nil (placed_frames 2 frames)
-
-    here : (c : Counts (log_name (number S)) frames image) (at : ℕ) (item : Item) → Contains (placed_frames 2 frames) (at, item) → IsCounted image (number S) at item
-    here (inl none) at item within = absurd (no-contained at item frames none.0 within)
-    here (inr has) at item within = counted-there (number S) at item frames image has within
-
-    kept : (c : Counts (log_name (number S)) frames image) (n at : ℕ) (item : Item) → Holds (number S) (placed_of frames []) a.files n at item → IsCounted image n at item
-    kept c n at item (inl is) =
-        subst (λ (k : ℕ). IsCounted image k at item) (sym is.0) (here c at item (subst (λ (l : List (ℕ × Item)). Contains l (at, item)) all is.1))
-    kept c n at item (inr other) = record { bytes = other.1.bytes; there = stands.others image left n other.0 ∙ other.1.there; counted = other.1.counted }
-
-    only : (n at : ℕ) (item : Item) → IsCounted image n at item → Holds (number S) (placed_of frames []) a.files n at item
-    only n at item counted = ⊎_elim
-        (λ is. inl (is, subst (λ (l : List (ℕ × Item)). Contains l (at, item)) (sym all) (counted-within (number S) at item frames image counts (subst (λ (k : ℕ). IsCounted image k at item) is counted))))
-        (λ other. inr (other, record { bytes = counted.bytes; there = sym (stands.others image left n other) ∙ counted.there; counted = counted.counted }))
-        (cases_file n (number S))
 
 -- after that only the content is possible
 pub settled_now : (S : LogStore) (a : HostState) (frames : List Frame) (records : List Item) → records ≡ [] → LogStands S a frames records → IsSettled (log_facts S) (log_means S a) a.turn
@@ -185,56 +187,71 @@ item_entry : (seq : ℕ) (change : Change) → entry_by (item_by seq change) ≡
 item_entry seq (Put key entry) = refl
 item_entry seq (Remove key) = refl
 
-item_no_end : (seq m : ℕ) (change : Change) → end m ≡ item_by seq change → ⊥
+pub item_no_end : (seq m : ℕ) (change : Change) → end m ≡ item_by seq change → ⊥
 item_no_end seq m (Put key entry) is = cc
 item_no_end seq m (Remove key) is = cc
 
-module _ (file next : ℕ) (frames : List Frame) (records : List Item) (files : Image) (change : Change) where
+module _ (file : ℕ) (frames : List Frame) (records : List Item) (files : Image) (one : Item) where
   abbrev before : ℕ → ℕ → Item → Type 0
   before = Holds file (placed_of frames records) files
 
   abbrev after : ℕ → ℕ → Item → Type 0
-  after = Holds file (placed_of frames (records ++ item_by next change ∷ [])) files
+  after = Holds file (placed_of frames (records ++ one ∷ [])) files
 
-  more : placed_of frames (records ++ item_by next change ∷ []) ≡ placed_of frames records ++ (next_place frames records, item_by next change) ∷ []
-  more = placed-push frames records (item_by next change)
+  more : placed_of frames (records ++ one ∷ []) ≡ placed_of frames records ++ (next_place frames records, one) ∷ []
+  more = placed-push frames records one
 
   pub holds_more : (n a : ℕ) (item : Item) → before n a item → after n a item
   holds_more n a item (inl here) =
       inl (
         here.0,
-        subst (λ (l : List (ℕ × Item)). Contains l (a, item)) (sym more) (Contains-append_left (placed_of frames records) ((next_place frames records, item_by next change) ∷ []) (a, item) here.1),
+        subst (λ (l : List (ℕ × Item)). Contains l (a, item)) (sym more) (Contains-append_left (placed_of frames records) ((next_place frames records, one) ∷ []) (a, item) here.1),
       )
   holds_more n a item (inr other) = inr other
 
-  pub holds_only : (n a : ℕ) (item : Item) → after n a item → before n a item ⊎ ((n ≡ file) × (a ≡ next_place frames records) × (item ≡ item_by next change))
+  pub holds_only : (n a : ℕ) (item : Item) → after n a item → before n a item ⊎ ((n ≡ file) × (a ≡ next_place frames records) × (item ≡ one))
   holds_only n a item (inl here) =
       ⊎_elim
       (λ was. inl (inl (here.0, was)))
       (λ is. inr (here.0, ap (λ (p : ℕ × Item). p.0) (sym is), ap (λ (p : ℕ × Item). p.1) (sym is)))
-      (Contains-push_cases (placed_of frames records) (next_place frames records, item_by next change) (a, item) (subst (λ (l : List (ℕ × Item)). Contains l (a, item)) more here.1))
+      (Contains-push_cases (placed_of frames records) (next_place frames records, one) (a, item) (subst (λ (l : List (ℕ × Item)). Contains l (a, item)) more here.1))
   holds_only n a item (inr other) = inl (inr other)
 
-  pub holds_new : after file (next_place frames records) (item_by next change)
+  pub holds_new : after file (next_place frames records) one
   holds_new =
-      inl (refl, subst (λ (l : List (ℕ × Item)). Contains l (next_place frames records, item_by next change)) (sym more) (Contains-push (placed_of frames records) (next_place frames records, item_by next change)))
+      inl (refl, subst (λ (l : List (ℕ × Item)). Contains l (next_place frames records, one)) (sym more) (Contains-push (placed_of frames records) (next_place frames records, one)))
 
-  pub above_more : ((n a : ℕ) (item : Item) (key : List ℕ) → before n a item → key_of item ≡ Some key → sequence_of item < next)
-      → (n a : ℕ) (item : Item) (key : List ℕ) → after n a item → key_of item ≡ Some key → sequence_of item < next + 1
-  above_more above n a item key counted of_key =
+  -- each sequence number is still below this one
+  pub above_more : (bound : ℕ) → sequence_of one < bound
+      → ((n a : ℕ) (item : Item) (key : List ℕ) → before n a item → key_of item ≡ Some key → sequence_of item < bound)
+      → (n a : ℕ) (item : Item) (key : List ℕ) → after n a item → key_of item ≡ Some key → sequence_of item < bound
+  above_more bound below above n a item key counted of_key =
       ⊎_elim
-      (λ was. omega (arith, above n a item key was of_key))
-      (λ one. omega (arith, ap sequence_of one.2, item_seq next change))
+      (λ was. above n a item key was of_key)
+      (λ is. omega (arith, ap sequence_of is.2, below))
       (holds_only n a item counted)
 
-  pub mark_more : (latest : ℕ) → ((n a m : ℕ) → before n a (end m) → m ≤ latest) → (n a m : ℕ) → after n a (end m) → m ≤ latest
-  mark_more latest mark n a m counted = ⊎_elim (λ was. mark n a m was) (λ one. absurd (item_no_end next m change one.2)) (holds_only n a (end m) counted)
+  -- and no end of a frame is later than this moment
+  pub mark_more : (latest : ℕ) → ((m : ℕ) → end m ≡ one → ⊥) → ((n a m : ℕ) → before n a (end m) → m ≤ latest) → (n a m : ℕ) → after n a (end m) → m ≤ latest
+  mark_more latest no_end mark n a m counted = ⊎_elim (λ was. mark n a m was) (λ is. absurd (no_end m is.2)) (holds_only n a (end m) counted)
 
-  pub reading_more : ((n a : ℕ) (item : Item) (key : List ℕ) → before n a item → key_of item ≡ Some key → sequence_of item < next)
-      → (content : Content) (key : List ℕ) → HasReading before key (read_in content key) → HasReading after key (read_in (changed change content) key)
+-- the record of a change
+
+module _ (file next : ℕ) (frames : List Frame) (records : List Item) (files : Image) (change : Change) where
+  abbrev kept_by : ℕ → ℕ → Item → Type 0
+  kept_by = Holds file (placed_of frames records) files
+
+  abbrev changed_by : ℕ → ℕ → Item → Type 0
+  changed_by = Holds file (placed_of frames (records ++ item_by next change ∷ [])) files
+
+  pub reading_more : ((n a : ℕ) (item : Item) (key : List ℕ) → kept_by n a item → key_of item ≡ Some key → sequence_of item < next)
+      → (content : Content) (key : List ℕ) → HasReading kept_by key (read_in content key) → HasReading changed_by key (read_in (changed change content) key)
   reading_more above content key reads = by_test (bytes_eq (change_key change) key) refl
     where
-      by_test : (b : Bool) → bytes_eq (change_key change) key ≡ b → HasReading after key (read_in (changed change content) key)
+      one : Item
+      one = item_by next change
+
+      by_test : (b : Bool) → bytes_eq (change_key change) key ≡ b → HasReading changed_by key (read_in (changed change content) key)
       by_test true is =
           let same : change_key change ≡ key = (bytes_eq-Decides (change_key change) key).0 is in
           inr (
@@ -242,39 +259,94 @@ module _ (file next : ℕ) (frames : List Frame) (records : List Item) (files : 
             next_place frames records,
             item_by next change,
             record {
-              counted = holds_new;
+              counted = holds_new file frames records files one;
               of_key = item_key next change ∙ ap (λ (k : List ℕ). Some k) same;
               newest = λ n a other counted of_key.
                   ⊎_elim
                   (λ was. inl (omega (arith, above n a other key was of_key, item_seq next change)))
                   (λ one. inr (ap sequence_of one.2, inr (one.0, omega (arith, one.1))))
-                  (holds_only n a other counted);
+                  (holds_only file frames records files one n a other counted);
             },
             ap (λ (b : Bool). cond b (Some (entry_of change)) (read_in content key)) is ∙ ap (λ (e : Option Entry). Some e) (sym (item_entry next change)),
           )
       by_test false is =
-          subst (λ (r : Reading). HasReading after key r) (sym (ap (λ (b : Bool). cond b (Some (entry_of change)) (read_in content key)) is))
-          (reading-same before after key (read_in content key)
-          (λ n a item of_key was. holds_more n a item was)
+          subst (λ (r : Reading). HasReading changed_by key r) (sym (ap (λ (b : Bool). cond b (Some (entry_of change)) (read_in content key)) is))
+          (reading-same kept_by changed_by key (read_in content key)
+          (λ n a item of_key was. holds_more file frames records files one n a item was)
           (λ n a item of_key counted.
           ⊎_elim
           (λ was. was)
-          (λ one.
-          let same : Some (change_key change) ≡ Some key = sym (item_key next change) ∙ ap key_of (sym one.2) ∙ of_key in
+          (λ is_one.
+          let same : Some (change_key change) ≡ Some key = sym (item_key next change) ∙ ap key_of (sym is_one.2) ∙ of_key in
           let keys : change_key change ≡ key = cc in
           let no : bytes_eq (change_key change) key ≡ true = (bytes_eq-Decides (change_key change) key).1 keys in
           let never : false ≡ true = sym is ∙ no in
           cc)
-          (holds_only n a item counted))
+          (holds_only file frames records files one n a item counted))
           reads)
 
 -- what the images of a run read
 
--- an image counts what one that a crash may leave now does
+-- An image reads and is marked as one that a crash may leave now, and is sound where that one is.
 pub record IsAsBefore (a : HostState) (image : Image) : Type 0 where
   pub before : Image
   pub left : a.left a.turn before
-  pub same : SameCounted before image
+  pub sound : IsSound before → IsSound image
+  pub reads : (key : List ℕ) (r : Reading) → HasReading (IsCounted image) key r → HasReading (IsCounted before) key r
+  pub marks : (m : ℕ) → IsMark image m → IsMark before m
+
+-- an image that counts what one does which a crash may leave now
+pub counts_before : (a : HostState) (before image : Image) → a.left a.turn before → SameCounted before image → IsAsBefore a image
+counts_before a before image left same = record {
+  before = before;
+  left = left;
+  sound = same.sound;
+  reads = λ key r. reading-same (IsCounted image) (IsCounted before) key r (λ n at item of_key. same.only n at item) (λ n at item of_key. same.kept n at item);
+  marks = λ m mark. record {
+    bound = λ n at k counted. mark.bound n at k (same.kept n at (end k) counted);
+    reached = ⊎_elim (λ none. inl none) (λ some. inr (some.0, some.1, same.only some.0 some.1 (end m) some.2)) mark.reached;
+  };
+}
+
+-- a run over one data file alone
+module _ (a : HostState) (file : ℕ) (frames : List Frame) (moment : ℕ) (wanted : Content) (P Q : List ℕ → Type 0)
+    (counts : AllLeft a (Counts (log_name file) frames))
+    (cases : (bytes : List ℕ) → P bytes → CountsFrames frames bytes ⊎ Q bytes)
+    (new : (d c : Image) (bytes : List ℕ) → a.left a.turn d → SameOthers file d c → file_in c (log_name file) ≡ Some bytes → Q bytes → IsNewImage wanted moment c) where
+  pub file_since : (d c : Image) → a.left a.turn d → OnFile (log_name file) P d c → IsAsBefore a c ⊎ IsNewImage wanted moment c
+  file_since d c left step = from (file_in c (log_name file)) refl
+    where
+      others : SameOthers file d c
+      others n other = step.others (log_name n) (other_name file n other)
+
+      still : (k : Counts (log_name file) frames d) → file_in c (log_name file) ≡ None → Counts (log_name file) frames c
+      still (inl none) is = inl (none.0, is)
+      still (inr has) is =
+          let some = step.stays (subst (λ (found : Option (List ℕ)). IsSome found) (sym has.there) refl) in
+          let no : false ≡ true = subst (λ (found : Option (List ℕ)). IsSome found) is some in
+          cc
+
+      from : (found : Option (List ℕ)) → file_in c (log_name file) ≡ found → IsAsBefore a c ⊎ IsNewImage wanted moment c
+      from None is =
+          inl (counts_before a d c left
+          (same-counted file frames d c (counts d left)
+          (record { others = step.others; stays = step.stays; file = λ bytes there. let no : None ≡ Some bytes = sym is ∙ there in cc })
+          (still (counts d left) is)))
+      from (Some bytes) is =
+          ⊎_elim
+          (λ old. inl (counts_before a d c left
+          (same-counted file frames d c (counts d left)
+          (record {
+            others = step.others;
+            stays = step.stays;
+            file = λ other there.
+                let both : Some bytes ≡ Some other = sym is ∙ there in
+                let one : bytes ≡ other = cc in
+                subst (λ (l : List ℕ). CountsFrames frames l) one old;
+          })
+          (inr (record { bytes = bytes; there = is; file = old })))))
+          (λ q. inr (new d c bytes left others is q))
+          (cases bytes (step.file bytes is))
 
 -- a run over the current file alone
 module _ (S : LogStore) (a : HostState) (frames : List Frame) (records : List Item) (moment : ℕ) (wanted : Content) (P Q : List ℕ → Type 0)
@@ -282,50 +354,11 @@ module _ (S : LogStore) (a : HostState) (frames : List Frame) (records : List It
     (cases : (bytes : List ℕ) → P bytes → CountsFrames frames bytes ⊎ Q bytes)
     (new : (image : Image) (bytes : List ℕ) → SameOthers (number S) a.files image → file_in image (log_name (number S)) ≡ Some bytes → Q bytes → IsNewImage wanted moment image) where
   pub step_since : (d c : Image) → a.left a.turn d → OnFile (log_name (number S)) P d c → IsAsBefore a c ⊎ IsNewImage wanted moment c
-  step_since d c left step = from (file_in c (log_name (number S))) refl
-    where
-      counts : Counts (log_name (number S)) frames d
-      counts = counts_now (writer S) (number S) a frames records stands.named stands.log.1.current d left
+  step_since =
+      file_since a (number S) frames moment wanted P Q (counts_now (writer S) (number S) a frames records stands.named stands.log.1.current) cases
+      (λ d c bytes left same there q. new c bytes (λ n other. same n other ∙ stands.others d left n other) there q)
 
-      others : SameOthers (number S) a.files c
-      others n other = step.others (log_name n) (other_name (number S) n other) ∙ stands.others d left n other
-
-      still : (k : Counts (log_name (number S)) frames d) → file_in c (log_name (number S)) ≡ None → Counts (log_name (number S)) frames c
-      still (inl none) is = inl (none.0, is)
-      still (inr has) is =
-          let some = step.stays (subst (λ (found : Option (List ℕ)). IsSome found) (sym has.there) refl) in
-          let no : false ≡ true = subst (λ (found : Option (List ℕ)). IsSome found) is some in
-          cc
-
-      from : (found : Option (List ℕ)) → file_in c (log_name (number S)) ≡ found → IsAsBefore a c ⊎ IsNewImage wanted moment c
-      from None is =
-          inl (record {
-            before = d;
-            left = left;
-            same = same-counted (number S) frames d c counts
-                (record { others = step.others; stays = step.stays; file = λ bytes there. let no : None ≡ Some bytes = sym is ∙ there in cc })
-                (still counts is);
-          })
-      from (Some bytes) is =
-          ⊎_elim
-          (λ old. inl (record {
-            before = d;
-            left = left;
-            same = same-counted (number S) frames d c counts
-                (record {
-                  others = step.others;
-                  stays = step.stays;
-                  file = λ other there.
-                      let both : Some bytes ≡ Some other = sym is ∙ there in
-                      let one : bytes ≡ other = cc in
-                      subst (λ (l : List ℕ). CountsFrames frames l) one old;
-                })
-                (inr (record { bytes = bytes; there = is; file = old }));
-          }))
-          (λ q. inr (new c bytes others is q))
-          (cases bytes (step.file bytes is))
-
--- a run, of which each step leaves an image that counts what one did before, or a new one
+-- a run, of which each step leaves an image that reads as one did before, or a new one
 module _ (S : LogStore) (a b : HostState) (frames : List Frame) (records : List Item) (moment : ℕ) (wanted : Content) (step : Image → Image → Type 0)
     (stands : LogStands S a frames records)
     (moves : Moves a b step)
@@ -336,19 +369,12 @@ module _ (S : LogStore) (a b : HostState) (frames : List Frame) (records : List 
       (λ same. inl (record {
         before = c;
         left = moves.past a.turn c (omega arith) (subst (λ (n : ℕ). b.left n c) (sym same) left);
-        same = record { sound = λ sound. sound; kept = λ n at item counted. counted; only = λ n at item counted. counted };
+        sound = λ sound. sound;
+        reads = λ key r reads. reads;
+        marks = λ m mark. mark;
       }))
       (λ later. let d = moves.now t c later until left in since d.0 c d.1 d.2)
       (eq-or-lt_of_le after)
-
-  reads_back : (c : Image) (was : IsAsBefore a c) (key : List ℕ) (r : Reading) → HasReading (IsCounted c) key r → HasReading (IsCounted was.before) key r
-  reads_back c was key r = reading-same (IsCounted c) (IsCounted was.before) key r (λ n at item of_key. was.same.only n at item) (λ n at item of_key. was.same.kept n at item)
-
-  marks_back : (c : Image) (was : IsAsBefore a c) (m : ℕ) → IsMark c m → IsMark was.before m
-  marks_back c was m mark = record {
-    bound = λ n at k counted. mark.bound n at k (was.same.kept n at (end k) counted);
-    reached = ⊎_elim (λ none. inl none) (λ some. inr (some.0, some.1, was.same.only some.0 some.1 (end m) some.2)) mark.reached;
-  }
 
   pub pair_since : (t : ℕ) (key : List ℕ) (r : Reading) (m : ℕ) → a.turn ≤ t → t ≤ b.turn → ImagePair b t key r m
       → IsOld ⊥ ((log_means S a).may a.turn key) r m ⊎ IsNew ⊥ moment (read_in wanted key) r m
@@ -357,7 +383,7 @@ module _ (S : LogStore) (a b : HostState) (frames : List Frame) (records : List 
       (λ was. inl record {
         before = r;
         least = m;
-        possible = inl record { image = was.before; left = was.left; reads = reads_back pair.image was key r pair.reads; marked = marks_back pair.image was m pair.marked };
+        possible = inl record { image = was.before; left = was.left; reads = was.reads key r pair.reads; marked = was.marks m pair.marked };
         no_later = omega arith;
         alike = inl refl;
       })
@@ -371,7 +397,7 @@ module _ (S : LogStore) (a b : HostState) (frames : List Frame) (records : List 
       (λ was. inl record {
         before = c;
         least = m;
-        possible = inl record { image = was.before; left = was.left; reads = λ key. reads_back pair.image was key (read_in c key) (pair.reads key); marked = marks_back pair.image was m pair.marked };
+        possible = inl record { image = was.before; left = was.left; reads = λ key. was.reads key (read_in c key) (pair.reads key); marked = was.marks m pair.marked };
         no_later = omega arith;
         alike = λ key. inl refl;
       })
@@ -382,7 +408,7 @@ module _ (S : LogStore) (a b : HostState) (frames : List Frame) (records : List 
   run_opens T = record {
     past = λ t before opens image left. opens image (moves.past t image (omega (arith, before)) left);
     since = λ is t after until image left.
-        ⊎_elim (λ was. was.same.sound (sound_of S a frames records stands was.before was.left)) (λ new. new.sound) (image_since t image after until left);
+        ⊎_elim (λ was. was.sound (sound_of S a frames records stands was.before was.left)) (λ new. new.sound) (image_since t image after until left);
   }
 
 -- a file that the store doesn't own has another name than its file
@@ -420,7 +446,7 @@ old_whole S a moment c m sound late new = record {
   alike = new.alike;
 }
 
--- A call of which each step leaves an image that counts what one did before, or one that reads as the content did. After
+-- A call of which each step leaves an image that reads as one did before, or one that reads as the content did. After
 -- it the store has the wanted content, or the one that it had.
 module _ (S T : LogStore) (a b : HostState) (frames : List Frame) (records : List Item) (moment : ℕ) (wanted : Content) (step : Image → Image → Type 0)
     (stands : LogStands S a frames records)

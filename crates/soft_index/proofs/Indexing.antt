@@ -1,5 +1,5 @@
 -- What an index step is to the store.
-use Rattle.std.proofs.Common.{◌≡◌, inl, inr, ℕ, ◌+◌, ◌≤◌, ◌<◌, false, List, [], ◌∷◌, Option, Some, refl, sym, ◌∙◌, ap, subst, arith}
+use Rattle.std.proofs.Common.{None, ◌≡◌, inl, inr, ℕ, ◌+◌, ◌≤◌, ◌<◌, false, List, [], ◌∷◌, Option, Some, refl, sym, ◌∙◌, ap, subst, arith}
 use Rattle.std.specs.Prelude.{Result, Ok, Err, IsErrOf, length}
 use Rattle.cache_model.specs.declared.faults.StoreFault.{StoreFault}
 use Rattle.cache_model.specs.declared.faults.StoreFault.TheVariants as fault
@@ -154,12 +154,21 @@ acts_alike f g old new a b moment wanted one two same acts = record {
 pub fault_alike : {T U : Type 0} (f e : StoreFault) → IsErrOf {T = T} (Err f) e → IsErrOf {T = U} (Err f) e
 fault_alike f e is = let same : f ≡ e = cc in ap (λ (x : StoreFault). Err x) same
 
-same_queued : (p q : ℕ) (c d : Option ℕ) → row_of p c ≡ row_of q d → p ≡ q
+-- equal parts have as much waiting
+pub same_queued : (p q : ℕ) (c d : Option ℕ) → row_of p c ≡ row_of q d → p ≡ q
 same_queued p q c d same = ap (λ (rows : List Row). first_queued rows) same
   where
     first_queued : List Row → ℕ
     first_queued [] = 0
     first_queued (row ∷ rows) = row.queued
+
+-- and the same current file
+pub same_current : (p q : ℕ) (c d : Option ℕ) → row_of p c ≡ row_of q d → c ≡ d
+same_current p q c d same = ap (λ (rows : List Row). first_current rows) same
+  where
+    first_current : List Row → Option ℕ
+    first_current [] = None
+    first_current (row ∷ rows) = row.current
 
 -- room, and then a change in it, move the parts as a change does
 pub room_queues : (limit : ℕ) (a b c : List Row) → MakesRoom limit a b → Queues limit b c → Queues limit a c

@@ -1,7 +1,7 @@
 -- A store that was made of what was found stands for what its files hold.
-use Rattle.std.proofs.Common.{◌≡◌, inl, inr, ℕ, ◌≤◌, ◌<◌, false, true, List, [], length, get_or, Contains, Option, Some, None, IsSome, refl, sym, ◌∙◌, ap, subst, arith}
+use Rattle.std.proofs.Common.{◌≡◌, inl, inr, ℕ, ◌≤◌, ◌<◌, false, true, List, [], length, get_or, All, Contains, Option, Some, None, IsSome, refl, sym, ◌∙◌, ap, subst, arith}
 use Rattle.std.specs.Prelude.{◌↔◌, IsTrue, unwrap_or}
-use Rattle.std.proofs.lemmas.List.Elements.{Contains-get_or}
+use Rattle.std.proofs.lemmas.List.Elements.{All-contains, Contains-get_or}
 use Rattle.cache_model.specs.declared.files.FileCount.{FileCount}
 use Rattle.cache_model.specs.declared.settings.Settings.{Settings}
 use Rattle.cache_model.specs.Files.{Image, bytes_in, file_in}
@@ -17,13 +17,14 @@ use Rattle.data_file.proofs.Frame.{placed_of}
 use Rattle.append_log.specs.Current.{IsEnded}
 use Rattle.append_log.specs.Standing.{Stands as HoldsFiles, nothing_held}
 use Rattle.file_stats.specs.declared.file_list.Found.{Found}
-use Rattle.tree_index.specs.Index.{Index}
+use Rattle.file_stats.specs.Figures.{numbers_of}
+use Rattle.tree_index.specs.Index.{Entries, Index}
 use Rattle.compactor.specs.Counting.{CountSame, Kept}
 use Rattle.compactor.specs.Figuring.{has_entry, live_in}
 use Rattle.compactor.specs.Recounting.{IsLiveIn}
 use Rattle.compactor.specs.Indexing.{AreIndexed, IsIndexed}
 use Rattle.compactor.proofs.Rows.{rows_read}
-use Rattle.rebuild.specs.Listing.{SameLogs}
+use Rattle.rebuild.specs.Listing.{IsNumber, SameLogs}
 use Rattle.rebuild.specs.Rebuilt.{IsLive, IsRebuilt, IsRowOf}
 use Rattle.store_trait.specs.Meaning.{read_in}
 use Rattle.soft_index.specs.declared.log_store.LogStore.{LogStore}
@@ -46,6 +47,14 @@ beyond_next files next n is late = from (file_in files (log_name n)) (λ there. 
     from : (found : Option (List ℕ)) → (IsSome found → n < next) → found ≡ None
     from None less = refl
     from (Some bytes) less = absurd (omega (arith, less refl, late))
+
+-- there is no data file with the number 0
+pub no_zero : (files now : Image) (bits : ℕ) (entries : Entries) (found : Found) → IsRebuilt files bits entries found → All IsNumber (numbers_of found.files) → SameFiles files now → file_in now (log_name 0) ≡ None
+no_zero files now bits entries found rebuilt are same = same (log_name 0) ∙ from (file_in files (log_name 0)) (rebuilt.rows.each 0).1
+  where
+    from : (f : Option (List ℕ)) → (IsSome f → Contains (numbers_of found.files) 0) → f ≡ None
+    from None among = refl
+    from (Some bytes) among = let number : IsNumber 0 = All-contains IsNumber (numbers_of found.files) 0 are (among refl) in absurd (omega (arith, number.0))
 
 -- What was found of the files, as they read before the opening, makes this store. Since then they were told to outlast a
 -- crash.

@@ -1,37 +1,39 @@
 -- What a change is to the store, where the current file is closed before its record and where it isn't.
-use Rattle.std.proofs.Common.{◌≡◌, ◌⊎◌, ⊎_elim, inl, inr, ℕ, ◌+◌, ◌≤◌, ◌==◌, true, false, Bool, List, [], ◌∷◌, ◌++◌, Option, Some, None, Contains, IsSome, is_some, refl, sym, ◌∙◌, ap, subst, arith}
+use Rattle.std.proofs.Common.{◌≡◌, ◌⊎◌, ⊎_elim, inl, inr, ℕ, ◌+◌, ◌≤◌, ◌<◌, ◌==◌, true, false, Bool, List, [], ◌∷◌, ◌++◌, Option, Some, None, Contains, IsSome, is_some, refl, sym, ◌∙◌, ap, subst, arith}
 use Rattle.std.specs.Prelude.{Ok, if◌then◌else◌, ◌&&◌}
 use Rattle.cache_model.specs.declared.entries.Change.{Change}
 use Rattle.cache_model.specs.declared.files.Place.{Place}
 use Rattle.cache_model.specs.Files.{Image, file_in}
-use Rattle.cache_model.specs.Items.{Item}
+use Rattle.cache_model.specs.Items.{Item, end}
 use Rattle.cache_model.specs.DataFiles.{Frame, CountsFrames, IsUndamaged, placed_frames}
-use Rattle.cache_model.specs.Images.{log_name, IsCounted}
+use Rattle.cache_model.specs.Images.{log_name, IsCounted, sequence_of}
 use Rattle.cache_disk.specs.State.{HostState, Moves, SameBut}
 use Rattle.data_file.specs.Appending.{next_place, written}
 use Rattle.append_log.specs.declared.log_files.LogFiles.{LogFiles}
-use Rattle.append_log.specs.Current.{IsUsable as IsUsableLog, files_of, store_of, is_over, makes_file, next_file, next_file_of, record_size, tail_by, tail_of}
+use Rattle.append_log.specs.Current.{IsUsable as IsUsableLog, files_of, store_of, is_over, makes_file, next_file, next_file_of, tail_by, tail_of}
 use Rattle.append_log.specs.Current as append
 use Rattle.data_file.specs.declared.appender.Appender.{Appender}
 use Rattle.append_log.specs.Standing.{Closed, Held, IsClosedIn, put_held}
-use Rattle.append_log.specs.Calls.{CountsIf, IsPut, OnFiles, PutsBy, SameBeside}
+use Rattle.append_log.specs.Calls.{CountsIf, IsWrittenBy, OnFiles, PutsBy, SameBeside}
 use Rattle.append_log.proofs.Holding.{next_most, waits-push}
 use Rattle.append_log.proofs.Steps.{current_alone, same_alone}
 use Rattle.store_trait.specs.Keeping.{Leaves, SameWhere}
 use Rattle.file_stats.specs.Figures.{Figures}
 use Rattle.soft_index.specs.declared.log_store.LogStore.{LogStore}
 use Rattle.soft_index.specs.Counted.{AreCounted, CountsWritten}
-use Rattle.soft_index.specs.Store.{Holds, IsPutIn, IsWritten, frames_after, records_after, LogStands, closed_frames, closes, content_of, item_by, is_spent, main_files, next_of, number, owns_file, spent_by, waiting, writer}
+use Rattle.soft_index.specs.Store.{Holds, IsPutIn, IsWritten, frames_after, records_after, LogStands, SameOthers, closed_frames, closes, content_of, item_by, is_spent, main_files, next_of, number, owns_file, spent_by, waiting, writer}
 use Rattle.soft_index.specs.Laws.{cases_file}
 use Rattle.soft_index.proofs.Counting.{Counts, counted-within, counted-there, items-counted, no-contained, undamaged-counted}
 use Rattle.soft_index.proofs.Counted.{no_entry}
-use Rattle.soft_index.proofs.Entering.{adds_one}
+use Rattle.soft_index.proofs.Entering.{placed_fresh}
 use Rattle.soft_index.proofs.Written.{counted_closed, counted_on, pushed_live, pushed_more}
-use Rattle.soft_index.proofs.Images.{CountsBeside, IsAsBefore, IsNewImage, counts_now, foreign_name, other_name, same_beside, sealed_image, step_since}
+use Rattle.soft_index.proofs.Images.{CountsBeside, IsAsBefore, IsNewImage, counts_before, counts_now, foreign_name, item_no_end, item_seq, other_name, same_beside, sealed_image, step_since}
 use Rattle.data_file.proofs.Frame.{placed_of}
 use Rattle.compactor.specs.Counting.{CountSame}
 use Rattle.compactor.specs.Indexing.{AreIndexed}
-use Rattle.soft_index.proofs.Standing.{rotated_records, same_records, stands_appended, stands_behind}
+use Rattle.soft_index.specs.Growing.{GrowsTo}
+use Rattle.soft_index.proofs.Growing.{grows_closed, grows_here, held_here, pushed_within, zero_same}
+use Rattle.soft_index.proofs.Standing.{beside_moves, rotated_file, rotated_kept, rotated_records, same_records, stands_appended, stands_behind}
 use Rattle.soft_index.proofs.Turning.{closed_cases, closed_last, named_main, to_main}
 use Rattle.cache_disk.proofs.Runs.{weaker}
 use Rattle.cache_model.specs.declared.faults.Spent.{Spent}
@@ -74,7 +76,7 @@ module _ (S : LogStore) (a : HostState) (frames : List Frame) (records : List It
 
   -- the current file counts its frames still
   as_before : Counts (log_name (number S)) frames c → IsAsBefore a c
-  as_before now = record { before = d; left = left; same = record { sound = λ sound. sound_now; kept = kept; only = only } }
+  as_before now = counts_before a d c left (record { sound = λ sound. sound_now; kept = kept; only = only })
     where
       forth : (k : Counts (log_name (number S)) frames c) (at : ℕ) (item : Item) → Contains (placed_frames 2 frames) (at, item) → IsCounted c (number S) at item
       forth (inl none) at item within = absurd (no-contained at item frames none.0 within)
@@ -157,13 +159,41 @@ number_tail : (log : Option Appender) (file : ℕ) (unsealed : Bool) (tail : ℕ
 number_tail None file unsealed tail is = cc
 number_tail (Some log) file unsealed tail is = let same : (file, log.size, unsealed) ≡ tail = cc in (ap (λ (t : ℕ × ℕ × Bool). t.0) same, refl)
 
-pub number_after : (S T : LogStore) (change : Change) (moment : ℕ) (place : Place) → IsPut change moment (files_of S.parts.log) (files_of T.parts.log) place → number T ≡ (if closes S change then number S + 1 else number S)
-number_after S T change moment place put =
+pub number_after : (S T : LogStore) (over : Bool) (next size moment : ℕ) (place : Place) → is_over (writer S) (files_of S.parts.log).file_size size ≡ over
+    → IsWrittenBy next over size moment (files_of S.parts.log) (files_of T.parts.log) place → number T ≡ (if over then number S + 1 else number S)
+number_after S T over next size moment place is put =
     let tail = number_tail (writer T) (number T) (waiting T) (place.file, place.at + place.length, true) put.tail in
-    let after = number_next (writer S) (number S) (closes S change) (λ over. over_some (writer S) (files_of S.parts.log).file_size (record_size (files_of S.parts.log) change) over) in
+    let after = number_next (writer S) (number S) over (λ closes_it. over_some (writer S) (files_of S.parts.log).file_size size (is ∙ closes_it)) in
     omega (arith, tail.1, put.next_file, after)
 
--- what the store holds after it
+-- what the store holds after a record was written
+pub record_in : (over : Bool) (one : Item) (moment : ℕ) (S T : LogStore) (a b : HostState) (frames : List Frame) (records : List Item) (place : Place)
+    → (stands : LogStands S a frames records)
+    → sequence_of one < next_of T → ((m : ℕ) → end m ≡ one → ⊥)
+    → S.latest ≤ moment → T.latest ≡ moment
+    → IsUsableLog (files_of T.parts.log) → store_of (files_of T.parts.log) ≡ 0
+    → next_of S ≤ next_of T
+    → number T ≡ (if over then number S + 1 else number S)
+    → PutsBy over one moment (record { closed = stands.log.0; frames = frames; records = records }) (main_files S) (files_of T.parts.log) a b (Ok place)
+    → AreIndexed (Holds (number T) (placed_of (if over then [] else frames) ((if over then [] else records) ++ one ∷ [])) b.files) T.parts
+    → AreCounted (record { number = number T; items = placed_of (if over then [] else frames) ((if over then [] else records) ++ one ∷ []); files = b.files }) T.parts
+    → LogStands T b (if over then [] else frames) ((if over then [] else records) ++ one ∷ [])
+record_in true one moment S T a b frames records place stands below no_end late latest usable main next file puts indexed counted =
+    let held : Held = record { closed = stands.log.0; frames = frames; records = records } in
+    let more = closed_frames (waiting S) frames records moment in
+    let closed : Closed = record { number = number S; frames = more } in
+    let last = subst (λ (s : ℕ). IsClosedIn s b closed) main (closed_last (store_of (files_of T.parts.log)) b stands.log.0 closed puts.stands.closed) in
+    stands_behind S T a b frames records moment stands file (beside_moves (main_files S) a b true (CountsIf true frames more) puts.images) puts.files (puts.closed refl) last one below no_end main
+    (stands.log.0 ++ closed ∷ [], to_main (files_of T.parts.log) b (put_held true (waiting S) (number S) moment held one) main puts.stands)
+    (named_main (files_of T.parts.log) main usable) indexed counted next late latest
+record_in false one moment S T a b frames records place stands below no_end late latest usable main next file puts indexed counted =
+    let held : Held = record { closed = stands.log.0; frames = frames; records = records } in
+    let more = closed_frames (waiting S) frames records moment in
+    stands_appended S T a b frames records (CountsFrames frames) stands file (current_alone (main_files S) a b frames more puts.images) (same_alone (main_files S) a.files b.files puts.files) one below no_end main
+    (stands.log.0, to_main (files_of T.parts.log) b (put_held false (waiting S) (number S) moment held one) main puts.stands)
+    (named_main (files_of T.parts.log) main usable) indexed counted next (omega (arith, late, latest))
+
+-- and what it holds after a change
 pub put_in : (over : Bool) (change : Change) (moment : ℕ) (S T : LogStore) (a b : HostState) (frames : List Frame) (records : List Item) (place : Place)
     → (stands : LogStands S a frames records)
     → closes S change ≡ over
@@ -175,30 +205,16 @@ pub put_in : (over : Bool) (change : Change) (moment : ℕ) (S T : LogStore) (a 
     → AreIndexed (Holds (number T) (placed_of (if over then [] else frames) ((if over then [] else records) ++ item_by (next_of S) change ∷ [])) b.files) T.parts
     → AreCounted (record { number = number T; items = placed_of (if over then [] else frames) ((if over then [] else records) ++ item_by (next_of S) change ∷ []); files = b.files }) T.parts
     → IsPutIn change moment frames records S T b
-put_in true change moment S T a b frames records place stands is late latest usable main next file puts indexed counted =
-    let held : Held = record { closed = stands.log.0; frames = frames; records = records } in
-    let more = closed_frames (waiting S) frames records moment in
-    let one : Item = item_by (next_of S) change in
-    let closed : Closed = record { number = number S; frames = more } in
-    let last = subst (λ (s : ℕ). IsClosedIn s b closed) main (closed_last (store_of (files_of T.parts.log)) b stands.log.0 closed puts.stands.closed) in
-    record {
-      holds = subst (λ (o : Bool). LogStands T b (if o then [] else frames) ((if o then [] else records) ++ one ∷ [])) (sym is)
-          (stands_behind S T a b frames records moment (CountsIf true frames more) stands file puts.images puts.files (puts.closed refl) last change main
-          (stands.log.0 ++ closed ∷ [], to_main (files_of T.parts.log) b (put_held true (waiting S) (number S) moment held one) main puts.stands)
-          (named_main (files_of T.parts.log) main usable) indexed counted next late latest);
-      closed = λ over. puts.closed refl;
-    }
-put_in false change moment S T a b frames records place stands is late latest usable main next file puts indexed counted =
-    let held : Held = record { closed = stands.log.0; frames = frames; records = records } in
-    let more = closed_frames (waiting S) frames records moment in
+put_in over change moment S T a b frames records place stands is late latest usable main next file puts indexed counted =
     let one : Item = item_by (next_of S) change in
     record {
       holds = subst (λ (o : Bool). LogStands T b (if o then [] else frames) ((if o then [] else records) ++ one ∷ [])) (sym is)
-          (stands_appended S T a b frames records (CountsFrames frames) stands file (current_alone (main_files S) a b frames more puts.images) (same_alone (main_files S) a.files b.files puts.files) change main
-          (stands.log.0, to_main (files_of T.parts.log) b (put_held false (waiting S) (number S) moment held one) main puts.stands)
-          (named_main (files_of T.parts.log) main usable) indexed counted next (omega (arith, late, latest)));
-      closed = λ over. let no : false ≡ true = sym is ∙ over in cc;
+          (record_in over one moment S T a b frames records place stands (omega (arith, item_seq (next_of S) change, next)) (λ m. item_no_end (next_of S) m change) late latest usable main (omega (arith, next)) file puts indexed counted);
+      closed = λ closes_it. closed_by over (sym is ∙ closes_it) puts.closed;
     }
+  where
+    closed_by : {P : Type 0} (o : Bool) → o ≡ true → (o ≡ true → P) → P
+    closed_by o is there = there is
 
 -- the records that counted before it count still
 pub put_records : (over : Bool) (moment : ℕ) (one : Item) (S T : LogStore) (a b : HostState) (frames : List Frame) (records : List Item) (place : Place)
@@ -211,10 +227,33 @@ put_records true moment one S T a b frames records place stands main file puts =
     let more = closed_frames (waiting S) frames records moment in
     let closed : Closed = record { number = number S; frames = more } in
     let last = subst (λ (s : ℕ). IsClosedIn s b closed) main (closed_last (store_of (files_of T.parts.log)) b stands.log.0 closed puts.stands.closed) in
-    rotated_records S T a b frames records moment (CountsIf true frames more) stands file puts.images puts.files (puts.closed refl) last
+    rotated_records S T a b frames records moment stands file (beside_moves (main_files S) a b true (CountsIf true frames more) puts.images) puts.files (puts.closed refl) last
 put_records false moment one S T a b frames records place stands main file puts =
     let more = closed_frames (waiting S) frames records moment in
     same_records S T a b frames records (CountsFrames frames) stands file (current_alone (main_files S) a b frames more puts.images) (same_alone (main_files S) a.files b.files puts.files)
+
+-- and what was held goes on
+pub record_grows : (over : Bool) (moment : ℕ) (one : Item) (S T : LogStore) (a b : HostState) (frames : List Frame) (records : List Item) (place : Place)
+    → (stands : LogStands S a frames records)
+    → 1 ≤ number S
+    → store_of (files_of T.parts.log) ≡ 0
+    → number T ≡ (if over then number S + 1 else number S)
+    → PutsBy over one moment (record { closed = stands.log.0; frames = frames; records = records }) (main_files S) (files_of T.parts.log) a b (Ok place)
+    → GrowsTo S T a.files b.files frames (if over then [] else frames) records ((if over then [] else records) ++ one ∷ [])
+record_grows true moment one S T a b frames records place stands some main file puts =
+    let more = closed_frames (waiting S) frames records moment in
+    let closed : Closed = record { number = number S; frames = more } in
+    let last = subst (λ (s : ℕ). IsClosedIn s b closed) main (closed_last (store_of (files_of T.parts.log)) b stands.log.0 closed puts.stands.closed) in
+    let only = beside_moves (main_files S) a b true (CountsIf true frames more) puts.images in
+    grows_closed S T a b frames records (one ∷ []) stands some file
+    (rotated_file S T a b frames records moment stands file only puts.files (puts.closed refl) last)
+    (rotated_kept S T a b frames records moment stands file only puts.files (puts.closed refl) last)
+record_grows false moment one S T a b frames records place stands some main file puts =
+    let same = same_alone (main_files S) a.files b.files puts.files in
+    let others : SameOthers (number S) a.files b.files = (λ n other. same (log_name n) (other_name (number S) n other)) in
+    grows_here S T a.files b.files file others frames frames records (records ++ one ∷ []) (zero_same S a.files b.files some others)
+    (λ n at item key is of_key. held_here S T a.files b.files file others (placed_of frames records) (placed_of frames (records ++ one ∷ [])) (pushed_within frames records one) n at item is)
+    (λ at item within. within)
 
 -- the statistics go along with it
 
@@ -222,20 +261,19 @@ some_tail : (log : Option Appender) (file : ℕ) (unsealed : Bool) (tail : ℕ �
 some_tail None file unsealed tail is = cc
 some_tail (Some log) file unsealed tail is = refl
 
-pub put_counted : (over : Bool) (change : Change) (moment : ℕ) (S T : LogStore) (a b : HostState) (frames : List Frame) (records : List Item) (place : Place) (old : Figures)
+pub record_counted : (over : Bool) (one : Item) (size moment : ℕ) (S T : LogStore) (a b : HostState) (frames : List Frame) (records : List Item) (place : Place) (old : Figures)
     → (stands : LogStands S a frames records)
-    → closes S change ≡ over
+    → is_over (writer S) (files_of S.parts.log).file_size size ≡ over
     → IsUsableLog (files_of S.parts.log) → IsUsableLog (files_of T.parts.log) → store_of (files_of T.parts.log) ≡ 0
-    → IsPut change moment (files_of S.parts.log) (files_of T.parts.log) place
+    → tail_of (files_of T.parts.log) ≡ Some (place.file, place.at + place.length, true)
     → number T ≡ (if over then number S + 1 else number S)
-    → PutsBy over (item_by (next_of S) change) moment (record { closed = stands.log.0; frames = frames; records = records }) (main_files S) (files_of T.parts.log) a b (Ok place)
+    → PutsBy over one moment (record { closed = stands.log.0; frames = frames; records = records }) (main_files S) (files_of T.parts.log) a b (Ok place)
     → old.rows ≡ S.parts.stats.rows → 1 ≤ old.spare → T.parts.tree ≡ S.parts.tree
     → CountsWritten (tail_of (files_of S.parts.log)) (tail_of (files_of T.parts.log)) old T.parts.stats
-    → AreCounted (record { number = number T; items = placed_of (if over then [] else frames) ((if over then [] else records) ++ item_by (next_of S) change ∷ []); files = b.files }) T.parts
-put_counted true change moment S T a b frames records place old stands is usable usable_now main put file puts rows room tree counts =
+    → AreCounted (record { number = number T; items = placed_of (if over then [] else frames) ((if over then [] else records) ++ one ∷ []); files = b.files }) T.parts
+record_counted true one size moment S T a b frames records place old stands is usable usable_now main tail file puts rows room tree counts =
     let held : Held = record { closed = stands.log.0; frames = frames; records = records } in
     let more = closed_frames (waiting S) frames records moment in
-    let one : Item = item_by (next_of S) change in
     let closed : Closed = record { number = number S; frames = more } in
     let last = subst (λ (s : ℕ). IsClosedIn s b closed) main (closed_last (store_of (files_of T.parts.log)) b stands.log.0 closed puts.stands.closed) in
     let none = no_entry (Holds (number S) (placed_of frames records) a.files) S.parts.tree (number T) (next_place [] []) stands.indexed.indexed
@@ -246,20 +284,31 @@ put_counted true change moment S T a b frames records place old stands is usable
     counted_closed S T a b frames [] records (one ∷ []) old stands
     (stands.log.0 ++ closed ∷ [], to_main (files_of T.parts.log) b (put_held true (waiting S) (number S) moment held one) main puts.stands)
     (named_main (files_of T.parts.log) main usable_now) rows tree counts moment file puts.files (puts.closed refl) last usable
-    (over_some (writer S) (files_of S.parts.log).file_size (record_size (files_of S.parts.log) change) is) (λ some. room)
+    (over_some (writer S) (files_of S.parts.log).file_size size is) (λ some. room)
     (pushed_live S.parts.tree (number T) [] [] one none)
-put_counted false change moment S T a b frames records place old stands is usable usable_now main put file puts rows room tree counts =
+record_counted false one size moment S T a b frames records place old stands is usable usable_now main tail file puts rows room tree counts =
     let held : Held = record { closed = stands.log.0; frames = frames; records = records } in
-    let one : Item = item_by (next_of S) change in
     let none = no_entry (Holds (number S) (placed_of frames records) a.files) S.parts.tree (number S) (next_place frames records) stands.indexed.indexed
-    (λ other key holds of_key. (adds_one (number S) (next_of S) frames records a.files change stands.above).fresh other key holds of_key) one in
+    (λ other key holds of_key. placed_fresh (number S) frames records a.files other holds) one in
     counted_on S T a b frames frames records (records ++ one ∷ []) old stands
     (stands.log.0, to_main (files_of T.parts.log) b (put_held false (waiting S) (number S) moment held one) main puts.stands)
     (named_main (files_of T.parts.log) main usable_now) rows tree counts file (same_alone (main_files S) a.files b.files puts.files)
-    (λ some. some_tail (writer T) (number T) (waiting T) (place.file, place.at + place.length, true) put.tail) (λ none' some. room)
+    (λ some. some_tail (writer T) (number T) (waiting T) (place.file, place.at + place.length, true) tail) (λ none' some. room)
     (pushed_more frames records one) (pushed_live S.parts.tree (number S) frames records one none)
 
 -- which number is spent
+
+-- the number of a file that is at its end
+pub file_end : (m : Bool) (n : ℕ) (s : Spent) → (if m && n == 4294967295 then Some (Files 4294967295) else None) ≡ Some s → (s ≡ Files 4294967295) × (n ≡ 4294967295)
+file_end m n s is = by (m && n == 4294967295) refl is
+  where
+    ends : (m : Bool) → (m && n == 4294967295) ≡ true → n ≡ 4294967295
+    ends true at = grind (arith, nat_tests)
+    ends false at = cc
+
+    by : (t : Bool) → (m && n == 4294967295) ≡ t → (if t then Some (Files 4294967295) else None) ≡ Some s → (s ≡ Files 4294967295) × (n ≡ 4294967295)
+    by true at found = let one : Files 4294967295 ≡ s = cc in (sym one, ends m at)
+    by false at found = cc
 
 pub spent_number : (S T : LogStore) (change : Change) (s : Spent) → spent_by S change ≡ Some s → (next_of T ≡ next_of S) × (next_file_of (files_of T.parts.log) ≡ next_file_of (files_of S.parts.log)) → is_spent T s
 spent_number S T change s is same = by_sequence (next_of S == 4611686018427387904) refl is

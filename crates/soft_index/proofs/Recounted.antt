@@ -21,7 +21,7 @@ use Rattle.temporary_table.specs.declared.requests.Request.{Request}
 use Rattle.temporary_table.specs.Places.{Places, Seat, place_of}
 use Rattle.tree_index.specs.Index.{Index, value_at}
 use Rattle.compactor.specs.declared.parts.Parts.{Parts}
-use Rattle.compactor.specs.Counting.{AreThere, IsNewestBy, Kept, counts_in}
+use Rattle.compactor.specs.Counting.{AreThere, Counts, IsNewestBy, Kept, counts_in}
 use Rattle.compactor.specs.Figuring.{has_entry, items_of, live_in}
 use Rattle.compactor.specs.Indexing.{IsEntryOf, IsIndexed, last_put}
 use Rattle.compactor.specs.Recounting.{AreRowsIn, IsCurrent, IsLiveIn, IsRecounted}
@@ -58,17 +58,21 @@ item_counts kept n one among = ⊎_elim
     by None is within = absurd (among-none one (subst (λ (f : Option (List ℕ)). Contains (counted_items (unwrap_or f [])) one) is within))
     by (Some bytes) is within = record { bytes = bytes; there = is; counted = subst (λ (f : Option (List ℕ)). Contains (counted_items (unwrap_or f [])) one) is within }
 
+-- where nothing waits for the index no key has a place
+pub no_place : (counts : Counts) (places : Places) (index : Index) (waiting : List Request) → IsIndexed counts places index waiting → waiting ≡ [] → (key : List ℕ) → place_of places key ≡ None
+no_place counts places index waiting indexed empty key = by (place_of places key) (indexed.queued key ∙ ap (λ (w : List Request). last_put key w) empty)
+  where
+    by : (seat : Seat) → option_map (λ s. s.0) seat ≡ None → seat ≡ None
+    by None is = refl
+    by (Some s) is = cc
+
 -- Where nothing waits for the index, it has an entry of an item exactly where that is the newest record of its key.
 module _ (kept : Kept) (files : Image) (places : Places) (index : Index) (waiting : List Request)
     (indexed : IsIndexed (counts_in kept) places index waiting)
     (there : AreThere (counts_in kept) files)
     (empty : waiting ≡ []) where
   nowhere : (key : List ℕ) → place_of places key ≡ None
-  nowhere key = by (place_of places key) (indexed.queued key ∙ ap (λ (w : List Request). last_put key w) empty)
-    where
-      by : (seat : Seat) → option_map (λ s. s.0) seat ≡ None → seat ≡ None
-      by None is = refl
-      by (Some s) is = cc
+  nowhere = no_place (counts_in kept) places index waiting indexed empty
 
   -- an entry is that of the newest record of its key
   entry_newest : (n at : ℕ) (item : Item) (key : List ℕ) (place : IndexKey) (value : IndexValue) → counts_in kept n at item → key_of item ≡ Some key → place.file ≡ n → place.at ≡ at

@@ -66,6 +66,7 @@ module _ (f g : StoreFacts) (u v : Type 0) (forgets : List ℕ → Type 0)
       moves = plain.same.moves;
       empties = plain.same.empties;
       room = plain.same.room;
+      steps = plain.same.steps;
       counts = plain.same.counts;
     };
     usable = λ unspoilt. usable (plain.usable unspoilt);
@@ -82,8 +83,8 @@ module _ (f g : StoreFacts) (u v : Type 0) (forgets : List ℕ → Type 0)
   pub draws_one_ruled : {T : Type 0} (result : Result T StoreFault) → DrawsOne f g result → DrawsOne before after result
   draws_one_ruled result draws = record { drawn = draws.drawn; made = draws.made; numbers = draws.numbers; refused = λ err unspoilt. draws_ruled (draws.refused err unspoilt) }
 
-  pub draws_by_ruled : {T : Type 0} (kind : StepKind) (result : Result T StoreFault) → DrawsBy kind f g result → DrawsBy kind before after result
-  draws_by_ruled Compact result draws = record { drawn = draws.drawn; made = draws.made; numbers = draws.numbers; refused = λ err unspoilt. draws_ruled (draws.refused err unspoilt) }
+  pub draws_by_ruled : (kind : StepKind) (result : Result Turned StoreFault) → DrawsBy kind f g result → DrawsBy kind before after result
+  draws_by_ruled Compact result draws = record { drawn = draws.drawn; made = draws.made; numbers = draws.numbers; idle = draws.idle; refused = λ err unspoilt. draws_ruled (draws.refused err unspoilt) }
   draws_by_ruled Index result draws = draws_ruled draws
   draws_by_ruled Flush result draws = draws_ruled draws
   draws_by_ruled Evict result draws = draws_ruled draws

@@ -33,10 +33,13 @@ use Rattle.cache_model.specs.declared.files.FileName.{FileName}
 use Rattle.file_stats.specs.Figures.{Figures}
 use Rattle.soft_index.specs.declared.log_store.LogStore.{LogStore}
 use Rattle.soft_index.specs.Counted.{CountsWritten}
-use Rattle.soft_index.specs.Store.{HoldsLog, IsNamed, LogStands, Rotates, SameOthers, closed_frames, content_of, current_of, is_spent, log_facts, log_means, main_files, next_file, number, row_of, waiting, writer}
-use Rattle.soft_index.proofs.Images.{IsAsBefore, IsNewImage, call_acts, leaves_others, same_beside, sealed_image, step_since}
+use Rattle.compactor.specs.Counting.{CountSame}
+use Rattle.soft_index.specs.Store.{Holds, HoldsLog, IsNamed, LogStands, Rotates, SameOthers, closed_frames, content_of, current_of, is_spent, log_facts, log_means, main_files, next_file, number, row_of, waiting, writer}
+use Rattle.soft_index.proofs.Images.{IsAsBefore, IsNewImage, call_acts, leaves_others, other_name, same_beside, sealed_image, step_since}
 use Rattle.soft_index.proofs.Changes.{SameParts, parts_indexed}
-use Rattle.soft_index.proofs.Standing.{content_same, rotated_records, same_records, stands_same, stands_rotated}
+use Rattle.soft_index.specs.Growing.{HasGrown}
+use Rattle.soft_index.proofs.Growing.{grows_closed, grows_here, zero_same}
+use Rattle.soft_index.proofs.Standing.{beside_moves, content_same, rotated_file, rotated_kept, rotated_records, same_records, stands_same, stands_rotated}
 use Rattle.soft_index.proofs.Written.{counted_closed, counted_on}
 
 -- the main store's log
@@ -147,6 +150,84 @@ turned_rows Done moment S T same is = (
   parts_of T ∙ ap (λ (c : Option ℕ). row_of (length T.parts.requests.waiting) c) (ap current_by is.1) ∙ row_waits S T None same,
 )
 
+-- What a store holds after a rotation has grown from what it held, and the same records count.
+record HasTurned (S T : LogStore) (a b : HostState) (frames : List Frame) (records : List Item) : Type 0 where
+  grown : HasGrown S T a.files b frames records
+  same : CountSame (Holds (number S) (placed_of frames records) a.files) (Holds (number T) (placed_of grown.fs grown.rs) b.files)
+
+turned_holds : (turned : Turned) (S T : LogStore) (a b : HostState) (frames : List Frame) (records : List Item) (moment : ℕ)
+    → (stands : LogStands S a frames records)
+    → S.latest ≤ moment → T.latest ≡ moment
+    → IsUsableLog (files_of S.parts.log) → IsUsableLog (files_of T.parts.log) → store_of (files_of T.parts.log) ≡ 0
+    → TakesNone (files_of S.parts.log) (files_of T.parts.log)
+    → IsTurned moment turned (files_of S.parts.log) (files_of T.parts.log)
+    → Seals moment (record { closed = stands.log.0; frames = frames; records = records }) (λ t. turned_held t (waiting S) (number S) moment (record { closed = stands.log.0; frames = frames; records = records })) (main_files S) (files_of T.parts.log) a b (Ok turned)
+    → SameParts S T
+    → CountsWritten (tail_of (files_of S.parts.log)) (tail_of (files_of T.parts.log)) S.parts.stats T.parts.stats
+    → HasTurned S T a b frames records
+turned_holds Idle S T a b frames records moment stands late latest ready usable main takes is told same counts =
+    let held : Held = record { closed = stands.log.0; frames = frames; records = records } in
+    let log : HoldsLog (main_files T) b frames records = (stands.log.0, to_main (files_of T.parts.log) b held main told.stands) in
+    let named = named_main (files_of T.parts.log) main usable in
+    let writers : writer T ≡ writer S = ap writer_of is.1 in
+    let P = CountsOneOf frames (closed_frames (waiting S) frames records moment) in
+    let file : number T ≡ number S = ap number_of is.1 in
+    let others : SameOthers (number S) a.files b.files = (λ n other. told.files (log_name n) (other_name (number S) n other)) in
+    let count = same_records S T a b frames records P stands file told.images told.files in
+    record {
+      grown = record {
+        fs = frames;
+        rs = records;
+        holds = stands_same S T a b frames records P stands file told.images told.files main
+            log named
+            (parts_indexed S T same (record { number = number S; items = placed_of frames records; files = a.files }) stands.indexed)
+            (counted_on S T a b frames frames records records S.parts.stats stands log named refl same.1 counts file told.files
+            (λ some. ap (λ (l : Option Appender). is_some l) writers ∙ some) (λ none some. let no : false ≡ true = sym none ∙ sym (ap (λ (l : Option Appender). is_some l) writers) ∙ some in cc) (omega arith) refl)
+            takes.0 (omega (arith, late, latest));
+        grows = grows_here S T a.files b.files file others frames frames records records (zero_same S a.files b.files ready.some others) count.kept (λ at item within. within);
+      };
+      same = count;
+    }
+turned_holds Done S T a b frames records moment stands late latest ready usable main takes is told same counts =
+    let held : Held = record { closed = stands.log.0; frames = frames; records = records } in
+    let more = closed_frames (waiting S) frames records moment in
+    let one : Closed = record { number = number S; frames = more } in
+    let some = some_current (writer S) (number S) (waiting S) is.0 in
+    let file : number T ≡ number S + 1 = sym (none_next (writer T) (number T) (waiting T) is.1) ∙ takes.1 ∙ some_next (writer S) (number S) some.0 in
+    let last = subst (λ (s : ℕ). IsClosedIn s b one) main (closed_last (store_of (files_of T.parts.log)) b stands.log.0 one told.stands.closed) in
+    let moves = on_closed (main_files S) a frames more (stands.log.1.absent (number S + 1) (next_most (writer S) (number S))) (log_counts 0 (writer S) (number S) a frames records stands.named stands.log.1.current) b told.images in
+    let only = beside_moves (main_files S) a b true (CountsIf true frames more) moves in
+    let beside = λ (name : FileName) (apart : is_name (file_of (main_files S)) name ≡ false) (behind : true ≡ true → is_name (file_behind (main_files S)) name ≡ false). told.files name apart in
+    let log : HoldsLog (main_files T) b [] [] = (stands.log.0 ++ one ∷ [], to_main (files_of T.parts.log) b (turned_held Done (waiting S) (number S) moment held) main told.stands) in
+    let named = named_main (files_of T.parts.log) main usable in
+    let reads = told.reads some.0 in
+    record {
+      grown = record {
+        fs = [];
+        rs = [];
+        holds = stands_rotated S T a b frames records moment stands file only beside reads last main
+            log named
+            (parts_indexed S T same (record { number = number S; items = placed_of frames records; files = a.files }) stands.indexed)
+            (counted_closed S T a b frames [] records [] S.parts.stats stands log named refl same.1 counts moment file beside reads last ready some.0 (no_writer (writer T) (number T) (waiting T) S.parts.stats is.1) refl)
+            takes.0 late latest;
+        grows = grows_closed S T a b frames records [] stands ready.some file (rotated_file S T a b frames records moment stands file only beside reads last) (rotated_kept S T a b frames records moment stands file only beside reads last);
+      };
+      same = rotated_records S T a b frames records moment stands file only beside reads last;
+    }
+
+pub turned_grows : (turned : Turned) (S T : LogStore) (a b : HostState) (frames : List Frame) (records : List Item) (moment : ℕ)
+    → (stands : LogStands S a frames records)
+    → S.latest ≤ moment → T.latest ≡ moment
+    → IsUsableLog (files_of S.parts.log) → IsUsableLog (files_of T.parts.log) → store_of (files_of T.parts.log) ≡ 0
+    → TakesNone (files_of S.parts.log) (files_of T.parts.log)
+    → IsTurned moment turned (files_of S.parts.log) (files_of T.parts.log)
+    → Seals moment (record { closed = stands.log.0; frames = frames; records = records }) (λ t. turned_held t (waiting S) (number S) moment (record { closed = stands.log.0; frames = frames; records = records })) (main_files S) (files_of T.parts.log) a b (Ok turned)
+    → SameParts S T
+    → CountsWritten (tail_of (files_of S.parts.log)) (tail_of (files_of T.parts.log)) S.parts.stats T.parts.stats
+    → HasGrown S T a.files b frames records
+turned_grows turned S T a b frames records moment stands late latest ready usable main takes is told same counts =
+    (turned_holds turned S T a b frames records moment stands late latest ready usable main takes is told same counts).grown
+
 pub turned_told : (turned : Turned) (S T : LogStore) (a b : HostState) (frames : List Frame) (records : List Item) (moment : ℕ)
     → (stands : LogStands S a frames records)
     → S.parts.spoilt ≡ false → S.latest ≤ moment → T.latest ≡ moment
@@ -157,58 +238,17 @@ pub turned_told : (turned : Turned) (S T : LogStore) (a b : HostState) (frames :
     → SameParts S T
     → CountsWritten (tail_of (files_of S.parts.log)) (tail_of (files_of T.parts.log)) S.parts.stats T.parts.stats
     → Stepped Rotate (log_facts S) (log_facts T) (log_means S a) (log_means T b) a b moment (Ok turned)
-turned_told Idle S T a b frames records moment stands sound late latest ready usable main takes is told same counts =
+turned_told turned S T a b frames records moment stands sound late latest ready usable main takes is told same counts =
     let held : Held = record { closed = stands.log.0; frames = frames; records = records } in
-    let log : HoldsLog (main_files T) b frames records = (stands.log.0, to_main (files_of T.parts.log) b held main told.stands) in
-    let named = named_main (files_of T.parts.log) main usable in
-    let writers : writer T ≡ writer S = ap writer_of is.1 in
-    let P = CountsOneOf frames (closed_frames (waiting S) frames records moment) in
-    let file : number T ≡ number S = ap number_of is.1 in
-    let now : LogStands T b frames records =
-    stands_same S T a b frames records P stands file told.images told.files main
-    log named
-    (parts_indexed S T same (record { number = number S; items = placed_of frames records; files = a.files }) stands.indexed)
-    (counted_on S T a b frames frames records records S.parts.stats stands log named refl same.1 counts file told.files
-    (λ some. ap (λ (l : Option Appender). is_some l) writers ∙ some) (λ none some. let no : false ≡ true = sym none ∙ sym (ap (λ (l : Option Appender). is_some l) writers) ∙ some in cc) (omega arith) refl)
-    takes.0 (omega (arith, late, latest))
-    in
-    let content : SameContent (content_of S a.files) (content_of T b.files) = content_same S T a b frames frames records records stands now (same_records S T a b frames records P stands file told.images told.files) in
+    let now = turned_holds turned S T a b frames records moment stands late latest ready usable main takes is told same counts in
+    let content : SameContent (content_of S a.files) (content_of T b.files) = content_same S T a b frames now.grown.fs records now.grown.rs stands now.grown.holds now.same in
     record {
-      acts = sealing_acts S T a b frames records moment stands.log.0 (λ (t : Turned). turned_held t (waiting S) (number S) moment held) (files_of T.parts.log) (Ok Idle) stands sound late latest told (λ unspoilt. content)
-          (λ unspoilt. (frames, records, now))
+      acts = sealing_acts S T a b frames records moment stands.log.0 (λ (t : Turned). turned_held t (waiting S) (number S) moment held) (files_of T.parts.log) (Ok turned) stands sound late latest told (λ unspoilt. content)
+          (λ unspoilt. (now.grown.fs, now.grown.rs, now.grown.holds))
           (λ d err. cc) (λ s err. cc) (λ err. cc);
       content = λ key. inl (content key);
       marks = λ key r m may. inl (content key);
-      parts = turned_rows Idle moment S T same.2 is;
-    }
-turned_told Done S T a b frames records moment stands sound late latest ready usable main takes is told same counts =
-    let held : Held = record { closed = stands.log.0; frames = frames; records = records } in
-    let more = closed_frames (waiting S) frames records moment in
-    let P = CountsIf true frames more in
-    let one : Closed = record { number = number S; frames = more } in
-    let some = some_current (writer S) (number S) (waiting S) is.0 in
-    let file : number T ≡ number S + 1 = sym (none_next (writer T) (number T) (waiting T) is.1) ∙ takes.1 ∙ some_next (writer S) (number S) some.0 in
-    let last = subst (λ (s : ℕ). IsClosedIn s b one) main (closed_last (store_of (files_of T.parts.log)) b stands.log.0 one told.stands.closed) in
-    let moves = on_closed (main_files S) a frames more (stands.log.1.absent (number S + 1) (next_most (writer S) (number S))) (log_counts 0 (writer S) (number S) a frames records stands.named stands.log.1.current) b told.images in
-    let beside = λ (name : FileName) (apart : is_name (file_of (main_files S)) name ≡ false) (behind : true ≡ true → is_name (file_behind (main_files S)) name ≡ false). told.files name apart in
-    let log : HoldsLog (main_files T) b [] [] = (stands.log.0 ++ one ∷ [], to_main (files_of T.parts.log) b (turned_held Done (waiting S) (number S) moment held) main told.stands) in
-    let named = named_main (files_of T.parts.log) main usable in
-    let now : LogStands T b [] [] =
-    stands_rotated S T a b frames records moment P stands file moves beside (told.reads some.0) last main
-    log named
-    (parts_indexed S T same (record { number = number S; items = placed_of frames records; files = a.files }) stands.indexed)
-    (counted_closed S T a b frames [] records [] S.parts.stats stands log named refl same.1 counts moment file beside (told.reads some.0) last ready some.0 (no_writer (writer T) (number T) (waiting T) S.parts.stats is.1) refl)
-    takes.0 late latest
-    in
-    let content : SameContent (content_of S a.files) (content_of T b.files) =
-    content_same S T a b frames [] records [] stands now (rotated_records S T a b frames records moment P stands file moves beside (told.reads some.0) last) in
-    record {
-      acts = sealing_acts S T a b frames records moment stands.log.0 (λ (t : Turned). turned_held t (waiting S) (number S) moment held) (files_of T.parts.log) (Ok Done) stands sound late latest told (λ unspoilt. content)
-          (λ unspoilt. ([], [], now))
-          (λ d err. cc) (λ s err. cc) (λ err. cc);
-      content = λ key. inl (content key);
-      marks = λ key r m may. inl (content key);
-      parts = turned_rows Done moment S T same.2 is;
+      parts = turned_rows turned moment S T same.2 is;
     }
 
 -- the same call, where the store is spoilt after it

@@ -29,18 +29,22 @@ use Rattle.soft_index.proofs.Counting.{items-counted}
 use Rattle.soft_index.proofs.Images.{other_name}
 use Rattle.soft_index.proofs.Raised.{AreRows, same_rows}
 use Rattle.soft_index.proofs.Sizes.{read_size, rows_closed, rows_on, sizes_in}
+use Rattle.soft_index.proofs.Standing.{rests_none}
 
 -- sealing
+
+-- a file with one frame more is as long as with the bytes that end it
+ended_length : (frames : List Frame) (records : List Item) (moment : ℕ) → length (written frames records) + length (ending (is_versioned frames records) moment) ≡ length (written (sealed frames records moment) [])
+ended_length frames records moment =
+    let one : Frame = record { records = records; moment = moment } in
+    sym (length-append (written frames records) (ending (is_versioned frames records) moment)) ∙ ap length (written-ending frames records moment) ∙ length-staged frames one
+    ∙ sym (ap length (written-none (sealed frames records moment)))
 
 -- the end of a frame is 10 bytes
 sealed_length : (frames : List Frame) (records : List Item) (moment : ℕ) → waits records ≡ true → length (written (sealed frames records moment) []) ≡ length (written frames records) + 10
 sealed_length frames records moment some =
-    let one : Frame = record { records = records; moment = moment } in
-    let tail : List ℕ = ending (is_versioned frames records) moment in
-    let long : length (written frames records ++ tail) ≡ length (written (sealed frames records moment) []) =
-    ap length (written-ending frames records moment) ∙ length-staged frames one ∙ sym (ap length (written-none (sealed frames records moment))) in
-    let ends : length tail ≡ 10 = ap (λ v. length (ending v moment)) (versioned frames records some) ∙ length-ending true moment in
-    omega (arith, long, ends, length-append (written frames records) tail)
+    let ends : length (ending (is_versioned frames records) moment) ≡ 10 = ap (λ v. length (ending v moment)) (versioned frames records some) ∙ length-ending true moment in
+    omega (arith, ended_length frames records moment, ends)
   where
     versioned : (fs : List Frame) (rs : List Item) → waits rs ≡ true → is_versioned fs rs ≡ true
     versioned [] [] none = cc
@@ -57,17 +61,24 @@ closed_more : (n size : ℕ) (u : Bool) → size + 10 < 2 ^ 64 → size ≤ clos
 closed_more n size true fits = omega (arith, fits)
 closed_more n size false fits = omega arith
 
+pub ended_more : (u : Bool) (frames : List Frame) (records : List Item) (moment : ℕ) → (u ≡ false → records ≡ []) → length (written frames records) ≤ length (written (closed_frames u frames records moment) [])
+ended_more true frames records moment none = omega (arith, ended_length frames records moment)
+ended_more false frames records moment none = omega (arith, ap (λ (l : List Item). length (written frames l)) (none refl))
+
 pub sealed_more : (u : Bool) (frames : List Frame) (records : List Item) (moment : ℕ) → u ≡ waits records → length (written frames records) ≤ length (written (closed_frames u frames records moment) [])
-sealed_more true frames records moment is = let more = sealed_length frames records moment (sym is) in omega (arith, more)
-sealed_more false frames records moment is = omega (arith, ap (λ (l : List Item). length (written frames l)) (none_waits records (sym is)))
+sealed_more u frames records moment is = ended_more u frames records moment (rests_none u records is)
 
 -- the end of a frame isn't live
-pub closed_live : (index : Index) (n : ℕ) (u : Bool) (frames : List Frame) (records : List Item) (moment : ℕ) → u ≡ waits records
+pub ended_live : (index : Index) (n : ℕ) (u : Bool) (frames : List Frame) (records : List Item) (moment : ℕ) → (u ≡ false → records ≡ [])
     → live_in index n (placed_of (closed_frames u frames records moment) []) ≡ live_in index n (placed_of frames records)
-closed_live index n true frames records moment is =
+ended_live index n true frames records moment none =
     ap (λ (l : List (ℕ × Item)). live_in index n l) (append-nil (placed_frames 2 (sealed frames records moment)) ∙ placed-sealed frames records moment)
     ∙ live_push index n (placed_of frames records) (next_place frames records, end moment) refl
-closed_live index n false frames records moment is = ap (λ (l : List Item). live_in index n (placed_of frames l)) (sym (none_waits records (sym is)))
+ended_live index n false frames records moment none = ap (λ (l : List Item). live_in index n (placed_of frames l)) (sym (none refl))
+
+pub closed_live : (index : Index) (n : ℕ) (u : Bool) (frames : List Frame) (records : List Item) (moment : ℕ) → u ≡ waits records
+    → live_in index n (placed_of (closed_frames u frames records moment) []) ≡ live_in index n (placed_of frames records)
+closed_live index n u frames records moment is = ended_live index n u frames records moment (rests_none u records is)
 
 -- one record more
 

@@ -1,9 +1,9 @@
 -- How compaction and counting move the parts of the store.
-use Rattle.std.specs.Prelude.{◌≡◌, ◌⊎◌, ℕ, ◌+◌, ◌-◌, ◌<◌, ◌≤◌, min, List, [], ◌∷◌, Option, Some, None, IsSome}
+use Rattle.std.specs.Prelude.{◌≡◌, ◌⊎◌, ℕ, ◌+◌, ◌<◌, min, List, [], ◌∷◌, map, Option, Some, None, IsSome}
 use Rattle.cache_model.specs.declared.replies.Turned.{Turned}
 use Rattle.cache_model.specs.declared.replies.Turned.TheVariants.{Done, Idle}
 use Rattle.cache_model.specs.Files.{Image}
-use Rattle.compactor.specs.Recounting.{IsCandidateOf, IsRecount, IsClosedFile, counted_records}
+use Rattle.compactor.specs.Recounting.{IsCandidateOf, IsRecount, counted_records}
 use Rattle.store_trait.specs.Meaning.{Row}
 
 -- the file under compaction and the turns done, where there is one
@@ -13,6 +13,18 @@ Run = Option (ℕ × ℕ)
 -- the parts of the store: how many requests wait for the index, the current file, and the run
 abbrev pub row_with : ℕ → Option ℕ → Run → List Row
 row_with queued current run = record { queued = queued; pending = []; current = current; run = run } ∷ []
+
+-- one part, with this run
+abbrev pub row_under : Run → Row → Row
+row_under run row = record row { run = run }
+
+-- the parts, with this run
+abbrev pub with_run : Run → List Row → List Row
+with_run run rows = map (row_under run) rows
+
+-- a call moves the parts so, and leaves the run
+abbrev pub ByRun : (List Row → List Row → Type 0) → List Row → List Row → Type 0
+ByRun moves a b = (run : Run) × (x : List Row) × (y : List Row) × moves x y × (a ≡ with_run run x) × (b ≡ with_run run y)
 
 -- The run that a turn goes on with, and how many requests wait then: the one under way, or a new one on the candidate, for
 -- which the queue is emptied.
@@ -53,34 +65,6 @@ pub record TakesTurn (limit threshold : ℕ) (files : Image) (a b : List Row) : 
 abbrev pub CompactsBy : ℕ → ℕ → Image → Turned → List Row → List Row → Type 0
 CompactsBy limit threshold files Done a b = TakesTurn limit threshold files a b
 CompactsBy limit threshold files Idle a b = (queued : ℕ) × (current : Option ℕ) × (a ≡ row_with queued current None) × IsCandidateOf files current threshold None × (b ≡ row_with 0 current None)
-
--- how many turns end a run that is under way
-abbrev pub turns_left : Image → Run → ℕ
-turns_left files None = 0
-turns_left files (Some run) = counted_records files run.0 + 2 - run.1
-
--- whether a file is the one under compaction
-abbrev pub IsUnder : Run → ℕ → Type 0
-IsUnder None file = ⊥
-IsUnder (Some run) file = run.0 ≡ file
-
--- a file is a closed one once the run that is under way has ended: that takes its own file away
-abbrev pub IsClosedBehind : Image → Option ℕ → Run → ℕ → Type 0
-IsClosedBehind files current run file = IsClosedFile files current file × (IsUnder run file → ⊥)
-
--- the current file behind some turns: as it was where none was taken, and else there is one
-abbrev pub IsCurrentBehind : ℕ → Option ℕ → Option ℕ → Type 0
-IsCurrentBehind turns current now = (now ≡ current) ⊎ ((1 ≤ turns) × IsSome now)
-
--- How the compaction of one file moves the parts, in so many turns: it ends a run that is under way and empties the queue.
--- It is idle exactly where the file isn't a closed one then; else it takes all turns of a run over it.
-abbrev pub CompactsFile : ℕ → Image → ℕ → Turned → ℕ → List Row → List Row → Type 0
-CompactsFile limit files file Done turns a b =
-    (queued : ℕ) × (current : Option ℕ) × (run : Run) × (now : Option ℕ) × (a ≡ row_with queued current run) × IsClosedBehind files current run file
-    × (turns ≡ turns_left files run + (counted_records files file + 2)) × IsSome now × (b ≡ row_with (min (counted_records files file) limit) now None)
-CompactsFile limit files file Idle turns a b =
-    (queued : ℕ) × (current : Option ℕ) × (run : Run) × (now : Option ℕ) × (a ≡ row_with queued current run) × (IsClosedBehind files current run file → ⊥)
-    × (turns ≡ turns_left files run) × IsCurrentBehind turns current now × (b ≡ row_with 0 now None)
 
 -- how counting moves the parts: the queue is emptied, and the figures are those of a recount
 abbrev pub CountsBy : Image → ℕ × ℕ × ℕ → List Row → List Row → Type 0

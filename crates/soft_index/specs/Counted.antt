@@ -1,9 +1,9 @@
 -- The statistics of the data files, and how they go along with what is written.
-use Rattle.std.specs.Prelude.{◌≡◌, ◌↔◌, ℕ, ◌+◌, ◌==◌, Bool, if◌then◌else◌, length, All, Contains, Option, Some, None, IsSome}
+use Rattle.std.specs.Prelude.{◌≡◌, ◌↔◌, ℕ, length, All, Contains, IsSome}
 use Rattle.std.specs.List.Sorted.{IsStrictlyIncreasing}
 use Rattle.cache_model.specs.Files.{file_in, bytes_in}
 use Rattle.cache_model.specs.Images.{log_name}
-use Rattle.file_stats.specs.Figures.{Figures, IsRaised, capped, numbers_of}
+use Rattle.file_stats.specs.Figures.{numbers_of}
 use Rattle.compactor.specs.declared.parts.Parts.{Parts}
 use Rattle.compactor.specs.Counting.{Kept}
 use Rattle.compactor.specs.Figuring.{AreFigured}

@@ -14,9 +14,12 @@ pub use Rattle.rebuild.specs.Rebuilt.{IsRead}
 use Rattle.store_trait.specs.Meaning.{Numbers, Row, StoreFacts, StoreState, read_in}
 use Rattle.soft_index.specs.declared.log_store.LogStore.{LogStore}
 use Rattle.soft_index.specs.declared.soft_index.SoftIndex.{SoftIndex}
-use Rattle.soft_index.specs.Compacting.{CountsBy}
+use Rattle.soft_index.specs.Compacting.{ByRun, CountsBy, row_with}
+use Rattle.soft_index.specs.Running.{MayGoOn}
+use Rattle.soft_index.specs.Steps.{StepsIn}
+use Rattle.soft_index.specs.Turns.{run_facts, run_means}
 use Rattle.soft_index.specs.Rule.{AnswersAlike, Allows, ruled}
-use Rattle.soft_index.specs.Store.{IsUsable, HasReading, MakesRoom, Queues, StepsBy, row_of, log_facts, log_means}
+use Rattle.soft_index.specs.Store.{IsUsable, HasReading, MakesRoom, Queues}
 
 module _ {F : Type 0} (g : Shared F (Bor (List ℕ) × Unit {0}) Bool) where
   -- a rule may be called on every key, and answers equal keys alike
@@ -25,11 +28,11 @@ module _ {F : Type 0} (g : Shared F (Bor (List ℕ) × Unit {0}) Bool) where
 
   -- what is known of it whatever the host tells
   abbrev pub index_facts : SoftIndex F → StoreFacts
-  index_facts store = ruled (log_facts store.log) (IsUsable store.log × IsRule store.forget) (Allows g store.forget)
+  index_facts store = ruled (run_facts store.log) (IsUsable store.log.log × MayGoOn store.log.run × IsRule store.forget) (Allows g store.forget)
 
 -- its log: the entries with what writes them to the files
 abbrev pub log_of : {F : Type 0} → SoftIndex F → LogStore
-log_of store = store.log
+log_of store = store.log.log
 
 -- its rule
 abbrev pub rule_of : {F : Type 0} → SoftIndex F → F
@@ -37,7 +40,7 @@ rule_of store = store.forget
 
 -- what it stands for on a host that tells its contents
 abbrev pub index_means : {F : Type 0} → SoftIndex F → HostState → StoreState
-index_means store state = log_means store.log state
+index_means store state = run_means store.log state
 
 -- The store was opened from these files: it has their content and mark, it goes on with the next numbers, and it goes by
 -- the settings. Nothing waits for its index.
@@ -52,9 +55,9 @@ pub record IsStarted (files : Image) (settings : Settings) (facts : StoreFacts) 
   pub made : facts.made ≤ numbers.0.file
   pub bits : facts.bits ≡ settings.hash_bits
   pub firm : facts.firm ≡ settings.sync_writes
-  pub parts : facts.parts ≡ row_of 0 None
-  pub moves : (change : Change) (a b : List Row) → facts.moves change a b → Queues settings.queue a b
+  pub parts : facts.parts ≡ row_with 0 None None
+  pub moves : (change : Change) (a b : List Row) → facts.moves change a b → ByRun (Queues settings.queue) a b
   pub empties : (a b : List Row) → facts.empties a b → b ≡ a
-  pub room : (a b : List Row) → facts.room a b → MakesRoom settings.queue a b
-  pub steps : (kind : StepKind) (turned : Turned) (a b : List Row) → state.steps kind turned a b → StepsBy kind turned a b
+  pub room : (a b : List Row) → facts.room a b → ByRun (MakesRoom settings.queue) a b
+  pub steps : (read : Image) (kind : StepKind) (turned : Turned) (a b : List Row) → facts.steps read kind turned a b → StepsIn settings.queue settings.compact_below read kind turned a b
   pub counts : (read : Image) (figures : ℕ × ℕ × ℕ) (a b : List Row) → facts.counts read figures a b → CountsBy read figures a b

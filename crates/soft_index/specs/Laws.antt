@@ -121,7 +121,7 @@ others_back file a b same n apart = sym (same n apart)
 same_content : (S : LogStore) (a b : HostState) → Leaves owns_file true a b → content_of S b.files ≡ content_of S a.files
 same_content S a b leaves = rows_same a.files b.files S.parts.table S.parts.tree (λ n. leaves.files (log_name n) refl)
 
-stands_there : (S : LogStore) (a b : HostState) (frames : List Frame) (records : List Item) → Leaves owns_file true a b → LogStands S a frames records → LogStands S b frames records
+pub stands_there : (S : LogStore) (a b : HostState) (frames : List Frame) (records : List Item) → Leaves owns_file true a b → LogStands S a frames records → LogStands S b frames records
 stands_there S a b frames records leaves stands =
     let same = others_same (number S) a.files b.files leaves.files in
     let back = others_back (number S) a.files b.files same in
@@ -189,7 +189,6 @@ log_carries S a b leaves = record {
   spent = λ s. (λ x. x, λ x. x);
   most = λ key. refl;
   fetches = λ key. (λ x. x, λ x. x);
-  steps = λ kind turned x y. (λ z. z, λ z. z);
 }
   where
     same : content_of S b.files ≡ content_of S a.files

@@ -1,8 +1,16 @@
 pub mod Store
 pub mod Laws
 pub mod Rule
+pub mod Growing
+pub mod Copied
 pub mod Index
 pub mod Walking
 pub mod Opening
 pub mod Compacting
 pub mod Counted
+pub mod Stamped
+pub mod Taken
+pub mod Steps
+pub mod Running
+pub mod RunLaws
+pub mod Turns

@@ -204,6 +204,7 @@ log_facts store = record {
   moves = λ change a b. Queues store.parts.requests.limit a b;
   empties = λ a b. b ≡ a;
   room = λ a b. MakesRoom store.parts.requests.limit a b;
+  steps = λ files kind turned a b. StepsBy kind turned a b;
   counts = CountsBy;
 }
 
@@ -225,7 +226,6 @@ log_means store state = record {
   spent = is_spent store;
   most = λ key. look_bytes store.parts key;
   fetches = λ key. Unit {0};
-  steps = StepsBy;
 }
 
 -- The store goes by these settings.

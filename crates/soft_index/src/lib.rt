@@ -1,11 +1,16 @@
 //! The store over the data files of a directory. Its values are on the disk alone, and an index finds them.
 #![tactic(auto)]
 
+mod compacting;
+mod copying;
 mod log_store;
 mod opening;
 mod reading;
+mod running;
 mod soft_index;
+mod stamping;
 mod store;
+mod taking;
 mod walking;
 mod writing;
 

@@ -1,8 +1,10 @@
 // Opening a directory.
-ghost use Rattle.std.specs.Prelude.{◌≡◌, IsTrue, IfOk, IfErr, IsErrOf};
+ghost use Rattle.std.specs.Prelude.{◌≡◌, IsTrue, IfOk, IfErr, IsErrOf, None, OnOk};
 ghost use Rattle.cache_model.specs.declared.faults.StoreFault.TheVariants as fault;
 ghost use Rattle.cache_model.specs.declared.faults.Spent.{Spent};
 ghost use Rattle.cache_model.specs.declared.faults.Damage.{Damage};
+ghost use Rattle.cache_model.specs.Files.{file_in};
+ghost use Rattle.cache_model.specs.Images.{log_name};
 ghost use Rattle.cache_disk.specs.State.{SameFiles, Silent, Moves};
 ghost use Rattle.cache_disk.specs.Calls.{HasStoreCause};
 ghost use Rattle.store_trait.specs.Keeping.{IsSettled};
@@ -72,6 +74,7 @@ impl LogStore {
         ensures opened { IsTrue H.tells → IfOk result (λ store. IsOpened (H.state host.old).files (H.state host.new) settings.now store store.latest) }
         ensures stands { IsTrue H.tells → IfOk result (λ store. (log_means store (H.state host.new)).stands) }
         ensures settled { IsTrue H.tells → IfOk result (λ store. IsSettled (log_facts store) (log_means store (H.state host.new)) (H.state host.new).turn) }
+        ensures zero { IsTrue H.tells → OnOk result (file_in (H.state host.new).files (log_name 0) ≡ None) }
         ensures damaged { IsTrue H.tells → (damage : Damage) → IsErrOf result (fault.Damaged damage) → IsFirstDamageOf (H.state host.old).files damage }
         ensures images { IsTrue H.tells → Moves (H.state host.old) (H.state host.new) SameFiles }
         ensures files { IsTrue H.tells → SameFiles (H.state host.old).files (H.state host.new).files }

@@ -13,10 +13,11 @@ ghost use Rattle.soft_index.specs.Index.{IsRead, IsRule, IsStarted, index_facts,
 ghost use Rattle.soft_index.specs.Store.{IsFirstDamageOf};
 ghost use Rattle.soft_index.specs.Rule.{Allows, IsRuled, Keeps, holds_ruled};
 ghost use Rattle.cache_model.specs.declared.entries.Answer.TheVariants.{Gone};
-ghost use Rattle.soft_index.specs.Store.{AreInRange, IsSpentBy, IsWritten, LogStands, log_facts, log_means, spent_by};
-ghost use Rattle.soft_index.specs.Laws.{log_holds, log_carries};
+ghost use Rattle.soft_index.specs.Store.{AreInRange, IsSpentBy, IsWritten, LogStands, spent_by};
+ghost use Rattle.soft_index.specs.RunLaws.{run_carries, run_holds};
+ghost use Rattle.soft_index.specs.Turns.{run_facts, run_means};
 
-use crate::log_store::LogStore;
+use crate::compacting::CompactingStore;
 use cache_disk::Host;
 use cache_model::{Answer, Change, Key, Settings, StepKind, StoreFault, Turned};
 use std::alloc::Global;
@@ -26,7 +27,7 @@ use store_trait::{FileStore, Keyed, ReadStore, Store};
 /// visible any more.
 #[derive(Drop)]
 pub struct SoftIndex<F> {
-    pub(crate) log: LogStore,
+    pub(crate) log: CompactingStore,
     pub(crate) forget: F,
 }
 
@@ -69,7 +70,7 @@ impl<F: Fn(&Key) -> bool + Drop> SoftIndex<F> {
         ensures cause { HasStoreCause (H.state host.old) (H.state host.new) result }
     {
         let _ = store;
-        match LogStore::start(alloc, host, settings) {
+        match CompactingStore::start(alloc, host, settings) {
             Ok(log) => {
                 let mark = log.latest();
                 Ok((SoftIndex { log, forget }, mark))
@@ -120,9 +121,9 @@ impl<F: Fn(&Key) -> bool, H: Host> ReadStore<H> for SoftIndex<F> {
         self.log.next_key(host, after, moment)
     }
 
-    ghost holds_now = { λ store host told sound stands. holds_ruled (log_facts store.log) _ _ (log_means store.log (H.state host)) (H.state host).turn (log_holds store.log (H.state host) stands.0 stands.1 sound stands.2) };
+    ghost holds_now = { λ store host told sound stands. holds_ruled (run_facts store.log) _ _ (run_means store.log (H.state host)) (H.state host).turn (run_holds store.log (H.state host) sound stands) };
 
-    ghost frame = { λ store host later told leaves. log_carries store.log (H.state host) (H.state later) leaves };
+    ghost frame = { λ store host later told leaves. run_carries store.log (H.state host) (H.state later) leaves };
 }
 
 impl<F: Fn(&Key) -> bool, H: Host> Store<H> for SoftIndex<F> {

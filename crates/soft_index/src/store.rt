@@ -1,5 +1,5 @@
 // A store over the data files of a directory, with an index of its records.
-ghost use Rattle.std.specs.Prelude.{◌≡◌, ◌+◌, ◌<◌, [], ℕ, List, length, false, if◌then◌else◌, IsTrue, IfOk, OnErr, OnOk, IsErrOf};
+ghost use Rattle.std.specs.Prelude.{◌≡◌, ◌+◌, ◌<◌, [], ℕ, List, length, false, if◌then◌else◌, IsTrue, IfOk, OnErr, OnOk, IsErrOf, option_map, true};
 ghost use Rattle.cache_model.specs.declared.faults.StoreFault.TheVariants as fault;
 ghost use Rattle.cache_model.specs.declared.faults.Spent.{Spent};
 ghost use Rattle.cache_model.specs.declared.commands.StepKind.TheVariants.{Index, Rotate};
@@ -13,7 +13,8 @@ ghost use Rattle.cache_disk.specs.Calls.{HasStoreCause};
 ghost use Rattle.compactor.specs.Stepping.{Pops};
 ghost use Rattle.store_trait.specs.Meaning.{Content, IsChange};
 ghost use Rattle.store_trait.specs.Keeping.{SameContent};
-ghost use Rattle.store_trait.specs.Calls.{Acts, IsReady, Plainly, DrawsOne, DrawsNone, Written, SyncedStore, Stepped};
+ghost use Rattle.store_trait.specs.Calls.{Acts, DrawsBy, DrawsNone, DrawsOne, Figured, IsReady, Loaded, Plainly, Stepped, SyncedStore, Walked, Written};
+ghost use Rattle.soft_index.specs.Growing.{Grows};
 ghost use Rattle.soft_index.specs.Store.{IsSpentBy, IsWritten, LogStands, MakesRoom, Rotates, closed_frames, content_of, log_facts, log_means, number, spent_by, waiting};
 ghost use Rattle.soft_index.specs.Laws.{log_holds, log_carries};
 
@@ -24,7 +25,7 @@ use crate::writing::put;
 use cache_disk::Host;
 use cache_model::{Answer, Change, Key, StepKind, StoreFault, Turned};
 use compactor::count_written;
-use store_trait::{FileStore, Keyed, ReadStore, Store};
+use store_trait::{Keyed, ReadStore, Store};
 
 impl Keyed for LogStore {
     ghost facts = { log_facts };
@@ -47,10 +48,43 @@ impl LogStore {
     {
         self.latest
     }
+
+    /// Counts the data files, once the index was told of all that waits for it.
+    pub(crate) fn figures<H: Host>(
+        &mut self,
+        host: &mut H,
+        moment: u64,
+    ) -> Result<(u64, u64, u64), StoreFault>
+        requires ready { IsReady (log_facts self.old) moment }
+        requires stands { IsTrue H.tells → (log_means self.old (H.state host.old)).stands }
+        ensures plain { Plainly (log_facts self.old) (log_facts self.new) moment result }
+        ensures spoilt { OnErr result ((log_facts self.new).spoilt ≡ true) }
+        ensures draws { DrawsNone (log_facts self.old) (log_facts self.new) }
+        ensures told { IsTrue H.tells → Figured (log_facts self.old) (log_facts self.new)
+            (log_means self.old (H.state host.old)) (log_means self.new (H.state host.new)) (H.state host.old) (H.state host.new) moment result }
+        ensures cause { HasStoreCause (H.state host.old) (H.state host.new) result }
+        ensures grows { IsTrue H.tells → self.new.parts.spoilt ≡ false → Grows self.old self.new (H.state host.old) (H.state host.new) }
+    {
+        self.latest = moment;
+        if let Err(fault) = self.parts.empty_queue(host) {
+            self.parts.spoilt = true;
+            return Err(fault);
+        }
+        Ok(self.parts.stats.totals())
+    }
 }
 
 impl<H: Host> ReadStore<H> for LogStore {
-    fn load(&mut self, host: &mut H, key: &Key, moment: u64) -> Result<Answer, StoreFault> {
+    fn load(&mut self, host: &mut H, key: &Key, moment: u64) -> Result<Answer, StoreFault>
+        requires ready { IsReady (log_facts self.old) moment }
+        requires stands { IsTrue H.tells → (log_means self.old (H.state host.old)).stands }
+        ensures plain { Plainly (log_facts self.old) (log_facts self.new) moment result }
+        ensures draws { DrawsNone (log_facts self.old) (log_facts self.new) }
+        ensures told { IsTrue H.tells → Loaded key.now (log_facts self.old) (log_facts self.new)
+            (log_means self.old (H.state host.old)) (log_means self.new (H.state host.new)) (H.state host.old) (H.state host.new) moment result }
+        ensures cause { HasStoreCause (H.state host.old) (H.state host.new) result }
+        ensures grows { IsTrue H.tells → self.new.parts.spoilt ≡ false → Grows self.old self.new (H.state host.old) (H.state host.new) }
+    {
         self.latest = moment;
         match self.parts.record_of(host, key) {
             Ok(found) => Ok(answer_by(found, moment)),
@@ -63,7 +97,16 @@ impl<H: Host> ReadStore<H> for LogStore {
         host: &mut H,
         after: Option<&Key>,
         moment: u64,
-    ) -> Result<Option<Key>, StoreFault> {
+    ) -> Result<Option<Key>, StoreFault>
+        requires ready { IsReady (log_facts self.old) moment }
+        requires stands { IsTrue H.tells → (log_means self.old (H.state host.old)).stands }
+        ensures plain { Plainly (log_facts self.old) (log_facts self.new) moment result }
+        ensures draws { DrawsNone (log_facts self.old) (log_facts self.new) }
+        ensures told { IsTrue H.tells → Walked (option_map (λ key. key.now) after.entry) (log_facts self.old) (log_facts self.new)
+            (log_means self.old (H.state host.old)) (log_means self.new (H.state host.new)) (H.state host.old) (H.state host.new) moment result }
+        ensures cause { HasStoreCause (H.state host.old) (H.state host.new) result }
+        ensures grows { IsTrue H.tells → self.new.parts.spoilt ≡ false → Grows self.old self.new (H.state host.old) (H.state host.new) }
+    {
         self.latest = moment;
         next_shown(&mut self.parts, host, after, moment)
     }
@@ -86,6 +129,7 @@ impl<H: Host> Store<H> for LogStore {
         ensures spent { IsSpentBy (spent_by self.old change.now) result }
         ensures wrote { IsTrue H.tells → (frames : List Frame) (records : List Item) → LogStands self.old (H.state host.old) frames records
             → OnOk result (IsWritten change.now moment frames records self.old self.new (H.state host.new)) }
+        ensures grows { IsTrue H.tells → self.new.parts.spoilt ≡ false → Grows self.old self.new (H.state host.old) (H.state host.new) }
     {
         if let Some(spent) = self.parts.log.spent_by(change) {
             self.latest = moment;
@@ -98,11 +142,29 @@ impl<H: Host> Store<H> for LogStore {
         enter(self, host, change, moment)
     }
 
-    fn sync(&mut self, host: &mut H, moment: u64) -> Result<(), StoreFault> {
+    fn sync(&mut self, host: &mut H, moment: u64) -> Result<(), StoreFault>
+        requires ready { IsReady (log_facts self.old) moment }
+        requires stands { IsTrue H.tells → (log_means self.old (H.state host.old)).stands }
+        ensures plain { Plainly (log_facts self.old) (log_facts self.new) moment result }
+        ensures draws { DrawsNone (log_facts self.old) (log_facts self.new) }
+        ensures told { IsTrue H.tells → SyncedStore (log_facts self.old) (log_facts self.new)
+            (log_means self.old (H.state host.old)) (log_means self.new (H.state host.new)) (H.state host.old) (H.state host.new) moment result }
+        ensures cause { HasStoreCause (H.state host.old) (H.state host.new) result }
+        ensures grows { IsTrue H.tells → self.new.parts.spoilt ≡ false → Grows self.old self.new (H.state host.old) (H.state host.new) }
+    {
         seal(self, host, moment)
     }
 
-    fn step(&mut self, host: &mut H, moment: u64, kind: StepKind) -> Result<Turned, StoreFault> {
+    fn step(&mut self, host: &mut H, moment: u64, kind: StepKind) -> Result<Turned, StoreFault>
+        requires ready { IsReady (log_facts self.old) moment }
+        requires stands { IsTrue H.tells → (log_means self.old (H.state host.old)).stands }
+        ensures plain { Plainly (log_facts self.old) (log_facts self.new) moment result }
+        ensures draws { DrawsBy kind (log_facts self.old) (log_facts self.new) result }
+        ensures told { IsTrue H.tells → Stepped kind (log_facts self.old) (log_facts self.new)
+            (log_means self.old (H.state host.old)) (log_means self.new (H.state host.new)) (H.state host.old) (H.state host.new) moment result }
+        ensures cause { HasStoreCause (H.state host.old) (H.state host.new) result }
+        ensures grows { IsTrue H.tells → self.new.parts.spoilt ≡ false → Grows self.old self.new (H.state host.old) (H.state host.new) }
+    {
         if let StepKind::Rotate = kind {
             return rotate(self, host, moment);
         }
@@ -114,17 +176,6 @@ impl<H: Host> Store<H> for LogStore {
     }
 }
 
-impl<H: Host> FileStore<H> for LogStore {
-    fn figures(&mut self, host: &mut H, moment: u64) -> Result<(u64, u64, u64), StoreFault> {
-        self.latest = moment;
-        if let Err(fault) = self.parts.empty_queue(host) {
-            self.parts.spoilt = true;
-            return Err(fault);
-        }
-        Ok(self.parts.stats.totals())
-    }
-}
-
 // Applies the oldest request to the index.
 fn index<H: Host>(store: &mut LogStore, host: &mut H, moment: u64) -> Result<Turned, StoreFault>
     requires ready { IsReady (log_facts store.old) moment }
@@ -133,6 +184,7 @@ fn index<H: Host>(store: &mut LogStore, host: &mut H, moment: u64) -> Result<Tur
     ensures draws { DrawsNone (log_facts store.old) (log_facts store.new) }
     ensures log { store.new.parts.spoilt ≡ false → append.files_of store.new.parts.log ≡ append.files_of store.old.parts.log }
     ensures limit { store.new.parts.requests.limit ≡ store.old.parts.requests.limit }
+    ensures latest { store.new.latest ≡ moment }
     ensures popped { IfOk result (λ turned. Pops turned store.old.parts.requests.waiting store.new.parts.requests.waiting) }
     ensures waits { OnErr result (store.new.parts.spoilt ≡ false → store.new.parts.requests.waiting ≡ store.old.parts.requests.waiting) }
     ensures unspent { (s : Spent) → IsErrOf result (fault.Spent s) → ⊥ }
@@ -148,14 +200,19 @@ fn index<H: Host>(store: &mut LogStore, host: &mut H, moment: u64) -> Result<Tur
     store.parts.index_step(host)
 }
 
-// Sees to it that the queue has room for one request more: where it is full, the oldest is applied to the index.
-fn make_room<H: Host>(store: &mut LogStore, host: &mut H, moment: u64) -> Result<(), StoreFault>
+/// Sees to it that the queue has room for one request more: where it is full, the oldest is applied to the index.
+pub(crate) fn make_room<H: Host>(
+    store: &mut LogStore,
+    host: &mut H,
+    moment: u64,
+) -> Result<(), StoreFault>
     requires ready { IsReady (log_facts store.old) moment }
     requires stands { IsTrue H.tells → (log_means store.old (H.state host.old)).stands }
     ensures plain { Plainly (log_facts store.old) (log_facts store.new) moment result }
     ensures draws { DrawsNone (log_facts store.old) (log_facts store.new) }
     ensures log { store.new.parts.spoilt ≡ false → append.files_of store.new.parts.log ≡ append.files_of store.old.parts.log }
     ensures limit { store.new.parts.requests.limit ≡ store.old.parts.requests.limit }
+    ensures latest { store.new.latest ≡ moment }
     ensures room { OnOk result (length store.new.parts.requests.waiting < store.new.parts.requests.limit) }
     ensures rows { store.new.parts.spoilt ≡ false → MakesRoom store.old.parts.requests.limit (log_facts store.old).parts (log_facts store.new).parts }
     ensures unspent { (s : Spent) → IsErrOf result (fault.Spent s) → ⊥ }
@@ -192,6 +249,7 @@ fn enter<H: Host>(
     ensures told { IsTrue H.tells → Written change.now (log_facts store.old) (log_facts store.new)
         (log_means store.old (H.state host.old)) (log_means store.new (H.state host.new)) (H.state host.old) (H.state host.new) moment result }
     ensures cause { HasStoreCause (H.state host.old) (H.state host.new) result }
+    ensures grows { IsTrue H.tells → store.new.parts.spoilt ≡ false → Grows store.old store.new (H.state host.old) (H.state host.new) }
     ensures spent { IsSpentBy (spent_by store.old change.now) result }
     ensures wrote { IsTrue H.tells → (frames : List Frame) (records : List Item) → LogStands store.old (H.state host.old) frames records
         → OnOk result (IsWritten change.now moment frames records store.old store.new (H.state host.new)) }
@@ -224,6 +282,7 @@ fn seal<H: Host>(store: &mut LogStore, host: &mut H, moment: u64) -> Result<(), 
     ensures told { IsTrue H.tells → SyncedStore (log_facts store.old) (log_facts store.new)
         (log_means store.old (H.state host.old)) (log_means store.new (H.state host.new)) (H.state host.old) (H.state host.new) moment result }
     ensures cause { HasStoreCause (H.state host.old) (H.state host.new) result }
+    ensures grows { IsTrue H.tells → store.new.parts.spoilt ≡ false → Grows store.old store.new (H.state host.old) (H.state host.new) }
 {
     store.latest = moment;
     let before = store.parts.log.tail();
@@ -245,6 +304,7 @@ fn rotate<H: Host>(store: &mut LogStore, host: &mut H, moment: u64) -> Result<Tu
     ensures told { IsTrue H.tells → Stepped Rotate (log_facts store.old) (log_facts store.new)
         (log_means store.old (H.state host.old)) (log_means store.new (H.state host.new)) (H.state host.old) (H.state host.new) moment result }
     ensures cause { HasStoreCause (H.state host.old) (H.state host.new) result }
+    ensures grows { IsTrue H.tells → store.new.parts.spoilt ≡ false → Grows store.old store.new (H.state host.old) (H.state host.new) }
 {
     store.latest = moment;
     let before = store.parts.log.tail();

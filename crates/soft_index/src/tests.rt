@@ -16,8 +16,8 @@ use crate::tests::failing::failures_spoil;
 use crate::tests::recount::counts_hold;
 use cache_disk::Host;
 use cache_model::{
-    Activation, Answer, Change, Entry, Key, Mode, Prefix, Settings, StepKind, StoreFault, Turned,
-    Until, Value,
+    Activation, Answer, Change, Entry, FileKind, FileName, Key, Mode, Prefix, Settings, StepKind,
+    StoreFault, Turned, Until, Value,
 };
 use host_memory::MemoryHost;
 use std::alloc::Global;
@@ -37,13 +37,14 @@ struct Table {
     sessions: [Session; 3],
 }
 
-/// How a store is run: its settings, and how many index steps follow each change.
+/// How a store is run: its settings, and how many index steps and then turns of a compaction follow each change.
 #[derive(Drop)]
 struct Way {
     hash_bits: u32,
     queue: usize,
     sync_writes: bool,
     steps: usize,
+    turns: usize,
 }
 
 /// The moment of the last session.
@@ -151,22 +152,27 @@ const MIDDLE: Table = Table {
     ],
 };
 
-/// Ways of which a change finds the queue full, or leaves room in it, or is in the index before the next one.
-const WAYS: [(u32, usize, bool, usize); 6] = [
-    (0, 1, true, 0),
-    (0, 2, false, 1),
-    (3, 2, true, 0),
-    (3, 16, false, 2),
-    (32, 1, true, 1),
-    (32, 16, false, 0),
+/// Ways of which a change finds the queue full, or leaves room in it, or is in the index before the next one. Behind some,
+/// a compaction goes on between the changes, or whole ones take place.
+const WAYS: [(u32, usize, bool, usize, usize); 9] = [
+    (0, 1, true, 0, 0),
+    (0, 2, false, 1, 0),
+    (3, 2, true, 0, 0),
+    (3, 16, false, 2, 0),
+    (32, 1, true, 1, 0),
+    (32, 16, false, 0, 0),
+    (0, 1, true, 0, 1),
+    (3, 2, false, 1, 3),
+    (32, 16, true, 0, 20),
 ];
 
-fn way_of(row: (u32, usize, bool, usize)) -> Way {
+fn way_of(row: (u32, usize, bool, usize, usize)) -> Way {
     Way {
         hash_bits: row.0,
         queue: row.1,
         sync_writes: row.2,
         steps: row.3,
+        turns: row.4,
     }
 }
 
@@ -387,10 +393,10 @@ fn index<F: Fn(&Key) -> bool + Drop>(
     ensures ready { OnOk result (IsReady (index_facts F.Fn store.new) moment) }
     ensures stands { OnOk result ((index_means store.new (memory_state host.new)).stands) }
 {
-    let waiting = store.log.parts.requests.len();
+    let waiting = store.log.log.parts.requests.len();
     let turned = step(store, host, moment, StepKind::Index)?;
     assert!(rt; (turned == Turned::Done) == (waiting != 0), "{waiting}");
-    assert!(rt; store.log.parts.requests.len() == waiting.saturating_sub(1));
+    assert!(rt; store.log.log.parts.requests.len() == waiting.saturating_sub(1));
     Ok(())
 }
 
@@ -409,6 +415,24 @@ fn index_often<F: Fn(&Key) -> bool + Drop>(
 {
     for _ in 0..steps {
         index(rt, store, host, moment)?;
+    }
+    Ok(())
+}
+
+/// So many turns of a compaction.
+fn compact_often<F: Fn(&Key) -> bool + Drop>(
+    store: &mut SoftIndex<F>,
+    host: &mut MemoryHost,
+    moment: u64,
+    turns: usize,
+) -> Result<(), Fail>
+    requires ready { IsReady (index_facts F.Fn store.old) moment }
+    requires stands { (index_means store.old (memory_state host.old)).stands }
+    ensures ready { OnOk result (IsReady (index_facts F.Fn store.new) moment) }
+    ensures stands { OnOk result ((index_means store.new (memory_state host.new)).stands) }
+{
+    for _ in 0..turns {
+        step(store, host, moment, StepKind::Compact)?;
     }
     Ok(())
 }
@@ -433,7 +457,8 @@ fn count_now<F: Fn(&Key) -> bool + Drop>(
     counts_hold(rt, alloc, store, host, moment)
 }
 
-/// One change, which both stores then have, and index steps and a count of the files, which change nothing of what is read.
+/// One change, which both stores then have, and index steps, turns of a compaction and a count of the files, which change
+/// nothing of what is read.
 fn row_holds<F: Fn(&Key) -> bool + Drop>(
     rt: &impl Abort,
     alloc: Global,
@@ -443,7 +468,7 @@ fn row_holds<F: Fn(&Key) -> bool + Drop>(
     keys: &[&'static str; 3],
     row: &Row,
     moment: u64,
-    steps: usize,
+    way: &Way,
 ) -> Result<(), Fail>
     requires ready { IsReady (index_facts F.Fn store.old) moment }
     requires stands { (index_means store.old (memory_state host.old)).stands }
@@ -456,8 +481,10 @@ fn row_holds<F: Fn(&Key) -> bool + Drop>(
     write(store, host, &change, moment)?;
     write(&mut heap.store, &mut heap.host, &change, moment)?;
     reads_alike(rt, alloc, store, heap, host, keys, moment)?;
-    index_often(rt, store, host, moment, steps)?;
-    count_now(rt, alloc, store, host, moment, steps)?;
+    index_often(rt, store, host, moment, way.steps)?;
+    compact_often(store, host, moment, way.turns)?;
+    reads_alike(rt, alloc, store, heap, host, keys, moment)?;
+    count_now(rt, alloc, store, host, moment, way.steps)?;
     reads_alike(rt, alloc, store, heap, host, keys, moment)
 }
 
@@ -518,8 +545,8 @@ fn ends<F: Fn(&Key) -> bool + Drop>(
     ensures ready { OnOk result (IsReady (index_facts F.Fn store.new) moment) }
     ensures stands { OnOk result ((index_means store.new (memory_state host.new)).stands) }
 {
-    index_often(rt, store, host, moment, 5)?;
-    assert!(rt; store.log.parts.requests.is_empty());
+    index_often(rt, store, host, moment, 20)?;
+    assert!(rt; store.log.log.parts.requests.is_empty());
     let turned = rests(store, host, moment)?;
     assert!(rt; turned == (Turned::Done, Turned::Idle));
     Ok(())
@@ -544,18 +571,10 @@ fn session_holds(
     let mut store = open(rt, alloc, host, &settings, |_| false, moment)?;
     counts_hold(rt, alloc, &mut store, host, moment)?;
     reads_alike(rt, alloc, &mut store, heap, host, keys, moment)?;
-    row_holds(
-        rt, alloc, &mut store, heap, host, keys, one, moment, way.steps,
-    )?;
-    row_holds(
-        rt, alloc, &mut store, heap, host, keys, two, moment, way.steps,
-    )?;
-    row_holds(
-        rt, alloc, &mut store, heap, host, keys, three, moment, way.steps,
-    )?;
-    row_holds(
-        rt, alloc, &mut store, heap, host, keys, four, moment, way.steps,
-    )?;
+    row_holds(rt, alloc, &mut store, heap, host, keys, one, moment, way)?;
+    row_holds(rt, alloc, &mut store, heap, host, keys, two, moment, way)?;
+    row_holds(rt, alloc, &mut store, heap, host, keys, three, moment, way)?;
+    row_holds(rt, alloc, &mut store, heap, host, keys, four, moment, way)?;
     counts_hold(rt, alloc, &mut store, host, moment)?;
     ends(rt, &mut store, host, moment)?;
     counts_hold(rt, alloc, &mut store, host, moment)
@@ -595,11 +614,24 @@ fn sessions_hold(
     Ok(host)
 }
 
+/// The data file that is written first.
+fn first_file() -> FileName {
+    FileName {
+        kind: FileKind::Log,
+        store: 0,
+        id: 1,
+    }
+}
+
 #[test]
 fn sessions_hold_the_same_as_a_store_in_memory(rt: HostRuntime) -> Result<(), Fail> {
     for row in WAYS {
         let way = way_of(row);
-        sessions_hold(&rt, rt.alloc(), &LONG, &way)?;
+        let left = sessions_hold(&rt, rt.alloc(), &LONG, &way)?;
+        assert!(&rt;
+            left.file(first_file()).is_none() == (way.turns > 2),
+            "{row:?}"
+        );
         sessions_hold(&rt, rt.alloc(), &SHORT, &way)?;
         let left = sessions_hold(&rt, rt.alloc(), &MIDDLE, &way)?;
         failures_spoil(&rt, rt.alloc(), &left, &way)?;
@@ -655,7 +687,8 @@ fn note(
     Ok(())
 }
 
-/// One change more in the past, and index steps behind it. Where changes are synced at once, its answer is a promise.
+/// One change more in the past, and index steps and turns of a compaction behind it. Where changes are synced at once, its
+/// answer is a promise.
 fn row_passes<F: Fn(&Key) -> bool + Drop>(
     rt: &impl Abort,
     alloc: Global,
@@ -681,7 +714,8 @@ fn row_passes<F: Fn(&Key) -> bool + Drop>(
     if way.sync_writes {
         past.promises.push((host.turns(), past.turns.len()))?;
     }
-    index_often(rt, store, host, moment, way.steps)
+    index_often(rt, store, host, moment, way.steps)?;
+    compact_often(store, host, moment, way.turns)
 }
 
 /// One session, whose changes are promised at its end.
@@ -787,11 +821,12 @@ fn crashes_hold(rt: &impl Abort, alloc: Global, table: &Table, way: &Way) -> Res
 #[test]
 fn crashes_leave_changes_that_were_begun(rt: HostRuntime) -> Result<(), Fail> {
     for (table, row) in [
-        (&LONG, (32, 16, true, 0)),
-        (&LONG, (3, 2, false, 1)),
-        (&SHORT, (0, 1, true, 1)),
-        (&SHORT, (32, 2, false, 0)),
-        (&MIDDLE, (0, 2, false, 0)),
+        (&LONG, (32, 16, true, 0, 0)),
+        (&LONG, (3, 2, false, 1, 2)),
+        (&SHORT, (0, 1, true, 1, 0)),
+        (&SHORT, (32, 2, false, 0, 1)),
+        (&MIDDLE, (0, 2, false, 0, 0)),
+        (&MIDDLE, (3, 16, true, 0, 20)),
     ] {
         crashes_hold(&rt, rt.alloc(), table, &way_of(row))?;
     }

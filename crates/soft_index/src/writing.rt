@@ -10,6 +10,7 @@ ghost use Rattle.store_trait.specs.Keeping.{Keeps, SameContent};
 ghost use Rattle.store_trait.specs.Calls.{Acts, IsReady, Plainly, DrawsOne};
 ghost use Rattle.compactor.specs.Indexing.{is_removal};
 ghost use Rattle.record_format.specs.Changing.{item_by};
+ghost use Rattle.soft_index.specs.Growing.{Grows};
 ghost use Rattle.soft_index.specs.Store.{IsPutIn, IsSpentBy, LogStands, Queues, closes, content_of, log_facts, log_means, number, spent_by};
 
 use crate::log_store::LogStore;
@@ -61,6 +62,7 @@ pub(crate) fn put<H: Host>(
     ensures kept { IsTrue H.tells → IsErrOf result fault.Memory → store.new.parts.spoilt ≡ false
         → Keeps (log_facts store.old) (H.state host.old).turn (H.state host.new).turn moment (log_means store.old (H.state host.old)) (log_means store.new (H.state host.new)) (content_of store.old (H.state host.old).files) }
     ensures cause { HasStoreCause (H.state host.old) (H.state host.new) result }
+    ensures grows { IsTrue H.tells → store.new.parts.spoilt ≡ false → Grows store.old store.new (H.state host.old) (H.state host.new) }
 {
     store.latest = moment;
     let Ok(key) = key_of(change).copy() else {

@@ -3,6 +3,7 @@ use Rattle.store_trait.specs.Meaning.{changed, key_of}
 use Rattle.store_trait.proofs.Runs.{kept_same}
 use Rattle.soft_index.specs.declared.log_store.LogStore.{LogStore}
 use Rattle.soft_index.specs.Store.{content_of, log_facts, log_means}
+use Rattle.soft_index.proofs.Growing.{grows_then}
 use Rattle.soft_index.proofs.Putting.{sealed_in, waits_in}
 use Rattle.soft_index.proofs.Turning.{acts_both, acts_spoilt, plainly_then}
 use Rattle.soft_index.proofs.store.enter.Goals as goal
@@ -76,7 +77,7 @@ returns-in-Err-seal-clause-plain g c =
     plainly_then {T = Unit {0}} {U = Unit {0}} (log_facts c.args.store.now) (log_facts c.put.new.store) (log_facts last) c.args.moment c.put.result (Err c.in-Err-seal.fault) c.put.ensures.plain c.in-Err-seal.ensures.plain
     in
     record {
-      same = record { bits = plain.same.bits; owns = plain.same.owns; ordered = plain.same.ordered; firm = plain.same.firm; forgets = plain.same.forgets; moves = plain.same.moves; empties = plain.same.empties; room = plain.same.room; counts = plain.same.counts };
+      same = record { bits = plain.same.bits; owns = plain.same.owns; ordered = plain.same.ordered; firm = plain.same.firm; forgets = plain.same.forgets; moves = plain.same.moves; empties = plain.same.empties; room = plain.same.room; steps = plain.same.steps; counts = plain.same.counts };
       usable = λ sound. let no : true ≡ false = sound in cc;
       unspoilt = tt;
       spoilt = inl refl;
@@ -84,3 +85,17 @@ returns-in-Err-seal-clause-plain g c =
       sequence = plain.sequence;
       files = plain.files;
     }
+
+-- what it held goes on
+
+pub returns-in-Err-seal-clause-grows : goal.returns-in-Err-seal-clause-grows
+returns-in-Err-seal-clause-grows g c told unspoilt = cc
+
+pub returns-clause-grows : goal.returns-clause-grows
+returns-clause-grows g c told unspoilt frames records stands =
+    let old = c.args.store.now in
+    let mid = c.put.new.store in
+    let a = g.H.Host.state c.args.host.now in
+    let b = g.H.Host.state c.put.new.host in
+    let d = g.H.Host.state c.seal.new.host in
+    grows_then old mid c.seal.new.store a b d frames records (c.put.ensures.grows told c.in_default.ensures.plain.unspoilt frames records stands) (c.seal.ensures.grows told unspoilt)

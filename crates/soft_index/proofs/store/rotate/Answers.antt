@@ -6,7 +6,8 @@ use Rattle.cache_model.specs.Images.{log_name}
 use Rattle.soft_index.specs.declared.log_store.LogStore.{LogStore}
 use Rattle.soft_index.specs.Counted.{CountsWritten}
 use Rattle.soft_index.proofs.Changes.{as_was, draws_none, same_rows, still_stands}
-use Rattle.soft_index.proofs.Turning.{from_main, sealing_acts, seals_main, turned_rows, turned_told}
+use Rattle.soft_index.proofs.Growing.{grows_as_was}
+use Rattle.soft_index.proofs.Turning.{from_main, sealing_acts, seals_main, turned_grows, turned_rows, turned_told}
 use Rattle.soft_index.proofs.store.rotate.Goals as goal
 
 pub rotate-requires-clause-stands : goal.rotate-requires-clause-stands
@@ -76,3 +77,36 @@ returns-in-Ok-clause-rows g c =
     let old = c.args.store.now in
     let new : LogStore = record old { parts = record old.parts { log = c.rotate.new.self; stats = c.count_written.new.stats }; latest = c.args.moment } in
     turned_rows c.in-Ok.turned c.args.moment old new refl c.in-Ok.ensures.turned
+
+pub returns-in-Err-clause-grows : goal.returns-in-Err-clause-grows
+returns-in-Err-clause-grows g c told unspoilt frames records stands =
+    let old = c.args.store.now in
+    let new : LogStore = record old { parts = record old.parts { log = c.rotate.new.self; spoilt = c.is_spoilt-store.result }; latest = c.args.moment } in
+    let F = old.parts.log.files in
+    let G = c.rotate.new.self.files in
+    let a = g.H.Host.state c.args.host.now in
+    let b = g.H.Host.state c.rotate.new.host in
+    let main = c.requires.ready.usable.main in
+    let held : Held = record { closed = stands.log.0; frames = frames; records = records } in
+    let after = λ (t : Turned). turned_held t F.unsealed F.file c.args.moment held in
+    let seals = seals_main {R = Turned} F G a b c.args.moment held after (Err c.in-Err.fault) main (c.in-Err.ensures.told told held (from_main F a held main stands.log.1)) in
+    let sound = sym c.is_spoilt-store.ensures ∙ unspoilt in
+    let kept = as_was old new a.files b.files (c.in-Err.ensures.goes.refused sound).1 (refl, refl, refl) refl (λ n. (seals.refused sound).files (log_name n)) in
+    grows_as_was old new a b kept c.requires.ready.late (seals.refused sound) frames records stands
+
+pub returns-in-Ok-clause-grows : goal.returns-in-Ok-clause-grows
+returns-in-Ok-clause-grows g c told unspoilt frames records stands =
+    let old = c.args.store.now in
+    let new : LogStore = record old { parts = record old.parts { log = c.rotate.new.self; stats = c.count_written.new.stats }; latest = c.args.moment } in
+    let F = old.parts.log.files in
+    let G = c.rotate.new.self.files in
+    let a = g.H.Host.state c.args.host.now in
+    let b = g.H.Host.state c.rotate.new.host in
+    let main = c.requires.ready.usable.main in
+    let held : Held = record { closed = stands.log.0; frames = frames; records = records } in
+    let after = λ (t : Turned). turned_held t F.unsealed F.file c.args.moment held in
+    let ens = c.in-Ok.ensures in
+    let seals = seals_main {R = Turned} F G a b c.args.moment held after (Ok c.in-Ok.turned) main (ens.told told held (from_main F a held main stands.log.1)) in
+    turned_grows c.in-Ok.turned old new a b frames records c.args.moment stands c.requires.ready.late refl c.requires.ready.usable.log (ens.goes.usable ens.goes.ok) (ens.goes.store ∙ main) ens.takes ens.turned seals (refl, refl, refl)
+    (subst (λ t. CountsWritten t (tail_of (files_of c.rotate.new.self)) old.parts.stats c.count_written.new.stats) c.tail-before.ensures
+    (subst (λ t. CountsWritten c.tail-before.result t old.parts.stats c.count_written.new.stats) c.tail.ensures c.count_written.ensures))

@@ -7,7 +7,8 @@ use Rattle.store_trait.specs.Keeping.{SameContent}
 use Rattle.soft_index.specs.declared.log_store.LogStore.{LogStore}
 use Rattle.soft_index.specs.Counted.{CountsWritten}
 use Rattle.soft_index.specs.Store.{HoldsLog, closed_frames, content_of, main_files, number, waiting, writer}
-use Rattle.soft_index.proofs.Images.{settled_now}
+use Rattle.soft_index.proofs.Growing.{closed_within, grows_as_was, grows_here, zero_same}
+use Rattle.soft_index.proofs.Images.{other_name, settled_now}
 use Rattle.soft_index.proofs.Changes.{as_was, draws_none, flushed_row, same_rows, still_stands}
 use Rattle.soft_index.proofs.Standing.{content_same, sealed_records, stands_sealed}
 use Rattle.soft_index.proofs.Turning.{from_main, named_main, sealed_parts, sealing_acts, seals_main, to_main}
@@ -144,3 +145,43 @@ returns-clause-others g c told =
     let main = c.requires.ready.usable.main in
     let held : Held = record { closed = stands.2.log.0; frames = stands.0; records = stands.1 } in
     (seals_main {R = Unit {0}} F G a b c.args.moment held (λ (answer : Unit {0}). sealed_held F.unsealed c.args.moment held) (Ok tt) main (c.in_default.ensures.told told held (from_main F a held main stands.2.log.1))).files
+
+pub returns-in-Err-clause-grows : goal.returns-in-Err-clause-grows
+returns-in-Err-clause-grows g c told unspoilt frames records stands =
+    let old = c.args.store.now in
+    let new : LogStore = record old { parts = record old.parts { log = c.seal.new.self; spoilt = c.is_spoilt-store.result }; latest = c.args.moment } in
+    let F = old.parts.log.files in
+    let G = c.seal.new.self.files in
+    let a = g.H.Host.state c.args.host.now in
+    let b = g.H.Host.state c.seal.new.host in
+    let main = c.requires.ready.usable.main in
+    let held : Held = record { closed = stands.log.0; frames = frames; records = records } in
+    let after = λ (answer : Unit {0}). sealed_held F.unsealed c.args.moment held in
+    let seals = seals_main {R = Unit {0}} F G a b c.args.moment held after (Err c.in-Err.fault) main (c.in-Err.ensures.told told held (from_main F a held main stands.log.1)) in
+    let sound = sym c.is_spoilt-store.ensures ∙ unspoilt in
+    let kept = as_was old new a.files b.files (c.in-Err.ensures.goes.refused sound).1 (refl, refl, refl) refl (λ n. (seals.refused sound).files (log_name n)) in
+    grows_as_was old new a b kept c.requires.ready.late (seals.refused sound) frames records stands
+
+pub returns-clause-grows : goal.returns-clause-grows
+returns-clause-grows g c told unspoilt frames records stands =
+    let old = c.args.store.now in
+    let new : LogStore = record old { parts = record old.parts { log = c.seal.new.self; stats = c.count_written.new.stats }; latest = c.args.moment } in
+    let F = old.parts.log.files in
+    let G = c.seal.new.self.files in
+    let a = g.H.Host.state c.args.host.now in
+    let b = g.H.Host.state c.seal.new.host in
+    let main = c.requires.ready.usable.main in
+    let held : Held = record { closed = stands.log.0; frames = frames; records = records } in
+    let more = closed_frames (waiting old) frames records c.args.moment in
+    let after = λ (answer : Unit {0}). sealed_held F.unsealed c.args.moment held in
+    let seals = seals_main {R = Unit {0}} F G a b c.args.moment held after (Ok tt) main (c.in_default.ensures.told told held (from_main F a held main stands.log.1)) in
+    let file : number new ≡ number old = c.in_default.ensures.sealed.file in
+    record {
+      fs = more;
+      rs = [];
+      holds = returns-clause-wrote g c told frames records stands;
+      grows = grows_here old new a.files b.files file (λ n other. seals.files (log_name n) (other_name (number old) n other)) frames more records []
+          (zero_same old a.files b.files c.requires.ready.usable.log.some (λ n other. seals.files (log_name n) (other_name (number old) n other)))
+          (sealed_records old new a b frames records (CountsOneOf frames more) stands file seals.images seals.files c.args.moment).kept
+          (closed_within (waiting old) frames records c.args.moment);
+    }

@@ -1,27 +1,32 @@
-use Rattle.std.proofs.Common.{inl, inr, ◌≡◌, ◌∙◌, refl, ap, sym, subst, Err, Ok, ℕ, List, [], false}
+use Rattle.std.proofs.Common.{inl, inr, ◌≡◌, ◌∙◌, refl, ap, sym, subst, Err, Ok, ℕ, ◌+◌, List, [], ◌∷◌, ◌++◌, false}
 use Rattle.std.specs.Prelude.{IsTrue, Result, if◌then◌else◌}
 use Rattle.cache_model.specs.declared.faults.StoreFault.{StoreFault}
 use Rattle.cache_model.specs.declared.faults.StoreFault.TheVariants as fault
 use Rattle.cache_model.specs.declared.files.Place.{Place}
+use Rattle.cache_model.specs.Items.{Item}
+use Rattle.cache_model.specs.DataFiles.{Frame}
+use Rattle.data_file.specs.Appending.{next_place}
+use Rattle.data_file.proofs.Frame.{placed_of}
 use Rattle.cache_disk.proofs.Runs.{Stands-same}
 use Rattle.append_log.specs.declared.log_calls.Log.{Log}
-use Rattle.append_log.specs.Current.{files_of, tail_of}
+use Rattle.append_log.specs.Current.{files_of, record_size, tail_of}
 use Rattle.append_log.specs.Current as append
 use Rattle.temporary_table.specs.Queue.{Queue}
 use Rattle.append_log.specs.Calls.{CountsIf, Goes, IsPut, IsSpentBy, Puts, PutsBy}
 use Rattle.append_log.specs.Standing.{Held, Stands}
 use Rattle.compactor.specs.declared.parts.Parts.{Parts}
-use Rattle.compactor.specs.Counting.{counts_in}
+use Rattle.compactor.specs.Counting.{Kept, counts_in}
 use Rattle.compactor.specs.Stepping.{Notes, Seats}
 use Rattle.store_trait.specs.Meaning.{changed, key_of}
 use Rattle.file_stats.specs.Figures.{Figures}
 use Rattle.soft_index.specs.declared.log_store.LogStore.{LogStore}
 use Rattle.soft_index.specs.Counted.{CountsWritten}
-use Rattle.soft_index.specs.Store.{closed_frames, closes, content_of, item_by, next_of, waiting}
-use Rattle.soft_index.proofs.Images.{call_acts}
+use Rattle.soft_index.specs.Store.{Holds, closed_frames, closes, content_of, item_by, next_of, number, waiting}
+use Rattle.soft_index.proofs.Images.{call_acts, item_key}
 use Rattle.soft_index.proofs.Changes.{IsAsWas, as_was, parts_counted, same_rows, still_acts, still_keeps, still_stands}
-use Rattle.soft_index.proofs.Entering.{Entered, entered_counts, entered_indexed, entered_plain, entered_rows, entered_tree, next_at, put_content, seated_was, seats_indexed, was_by}
-use Rattle.soft_index.proofs.Putting.{number_after, put_counted, put_in, put_leaves, put_records, since_put, spent_number}
+use Rattle.soft_index.proofs.Entering.{Entered, above_after, change_newer, entered_counts, entered_indexed, entered_plain, entered_rows, entered_tree, next_at, put_content, seated_was, seats_indexed, was_by}
+use Rattle.soft_index.proofs.Putting.{number_after, put_in, put_leaves, put_records, record_counted, record_grows, since_put, spent_number}
+use Rattle.soft_index.proofs.Growing.{grows_as_was}
 use Rattle.soft_index.proofs.Turning.{from_main}
 use Rattle.soft_index.proofs.writing.put.Given as given
 use Rattle.soft_index.proofs.writing.put.Goals as goal
@@ -105,7 +110,11 @@ returns-in-Err-clause-kept g c told err unspoilt =
 
 -- where the record was written
 
-entered : (g : given.Over) (c : goal.After-note g) → Entered c.args.change.now c.in-Ok-put_change.place c.is_gone.result c.args.store.now (record c.args.store.now { parts = c.note.new.self; latest = c.args.moment })
+-- each record of a change is a proper one
+abbrev any_record : Kept → Item → Type 0
+any_record kept item = Unit {0}
+
+entered : (g : given.Over) (c : goal.After-note g) → Entered (key_of c.args.change.now) c.in-Ok-put_change.place c.is_gone.result any_record c.args.store.now (record c.args.store.now { parts = c.note.new.self; latest = c.args.moment })
 entered g c =
     let old = c.args.store.now in
     let change = c.args.change.now in
@@ -114,6 +123,7 @@ entered g c =
     let named : c.in-Ok.key ≡ key_of change = c.in-Ok.ensures.equal ∙ c.key_of.ensures in
     let seated : c.in-Ok-copy.seated ≡ key_of change = c.in-Ok-copy.ensures.equal ∙ c.key_of-2.ensures in
     let figures : Figures = c.count_written.new.stats in
+    let notes = subst (λ (k : List ℕ). Notes k place c.is_gone.result (record c.seat.new.self { log = c.put_change.new.self; stats = figures }) new.parts) named c.note.ensures.notes in
     record {
       reserved = c.reserve.new.self;
       rows = c.reserve.ensures.rows;
@@ -126,8 +136,9 @@ entered g c =
           (subst (λ (l : Log). CountsWritten (tail_of (files_of l)) (tail_of (files_of c.put_change.new.self)) c.seat.new.self.stats figures) c.seat.ensures.seats.log
           (subst (λ t. CountsWritten t (tail_of (files_of c.put_change.new.self)) c.seat.new.self.stats figures) c.tail-before.ensures
           (subst (λ t. CountsWritten c.tail-before.result t c.seat.new.self.stats figures) c.tail.ensures c.count_written.ensures)));
-      notes = subst (λ (k : List ℕ). Notes k place c.is_gone.result (record c.seat.new.self { log = c.put_change.new.self; stats = figures }) new.parts) named c.note.ensures.notes;
-      gone_is = c.is_gone.ensures (next_of old);
+      noted = record { tree = notes.tree; stats = notes.stats; log = notes.log; spoilt = notes.spoilt; limit = notes.limit; queued = notes.queued };
+      usable = notes.usable;
+      indexed = λ kept more item is proper adds place_is. notes.indexed kept more item is adds place_is;
       latest = c.requires.ready.late;
     }
 
@@ -162,13 +173,13 @@ pub returns-in-Ok-put_change-clause-plain : goal.returns-in-Ok-put_change-clause
 returns-in-Ok-put_change-clause-plain g c =
     let old = c.args.store.now in
     let new : LogStore = record old { parts = c.note.new.self; latest = c.args.moment } in
-    entered_plain c.args.change.now c.in-Ok-put_change.place c.is_gone.result old new c.args.moment (entered g c) (goes g c) (put_is g c) c.requires.ready.usable c.requires.ready.unspoilt refl refl
+    entered_plain (key_of c.args.change.now) c.in-Ok-put_change.place c.is_gone.result any_record old new c.args.moment (entered g c) (goes g c) (put_is g c).tail c.requires.ready.usable c.requires.ready.unspoilt refl refl
 
 pub returns-in-Ok-put_change-clause-queued : goal.returns-in-Ok-put_change-clause-queued
 returns-in-Ok-put_change-clause-queued g c =
     let old = c.args.store.now in
     let new : LogStore = record old { parts = c.note.new.self; latest = c.args.moment } in
-    entered_rows c.args.change.now c.in-Ok-put_change.place c.is_gone.result old new c.args.moment (entered g c) (goes g c) (put_is g c) c.requires.ready.usable c.requires.room
+    entered_rows (key_of c.args.change.now) c.in-Ok-put_change.place c.is_gone.result any_record old new c.args.moment (entered g c) (goes g c) (put_is g c).tail c.requires.ready.usable c.requires.room
 
 pub returns-in-Ok-put_change-clause-wrote : goal.returns-in-Ok-put_change-clause-wrote
 returns-in-Ok-put_change-clause-wrote g c told frames records stands =
@@ -181,19 +192,26 @@ returns-in-Ok-put_change-clause-wrote g c told frames records stands =
     let over = closes old change in
     let usable = c.requires.ready.usable in
     let puts = puts_is g c told (record { closed = stands.log.0; frames = frames; records = records }) stands.log.1 in
-    let file = number_after old new change c.args.moment place (put_is g c) in
+    let put = put_is g c in
+    let file = number_after old new over (next_of old + 1) (record_size old.parts.log.files change) c.args.moment place refl put in
     let main = (goes g c).store ∙ usable.main in
-    let same = put_records over c.args.moment (item_by (next_of old) change) old new a b frames records place stands main file puts in
-    let one = entered g c in
+    let one : Item = item_by (next_of old) change in
+    let fs : List Frame = if over then [] else frames in
+    let rs : List Item = if over then [] else records in
+    let same = put_records over c.args.moment one old new a b frames records place stands main file puts in
+    let at = next_at over frames records place puts.at in
+    let is_in = entered g c in
     let indexed =
-    entered_indexed change place c.is_gone.result old new c.args.moment one (goes g c) (put_is g c) usable a b frames records over stands same (next_at over frames records place puts.at)
+    entered_indexed (key_of change) place c.is_gone.result any_record old new c.args.moment is_in (goes g c) put.tail usable one a b frames records over stands
+    (record { long = put.length_is; gone_is = c.is_gone.ensures (next_of old) }) (item_key (next_of old) change) tt same
+    (change_newer (Holds (number new) (placed_of fs rs) b.files) (number new) (next_place fs rs) (next_of old) change (above_after old a frames records (Holds (number new) (placed_of fs rs) b.files) stands same)) at
     in
     let log = (goes g c).usable (goes g c).ok in
     let counted =
-    put_counted over change c.args.moment old new a b frames records place one.reserved stands refl usable.log log main (put_is g c) file puts one.rows one.room
-    (entered_tree change place c.is_gone.result old new c.args.moment one (goes g c) (put_is g c) usable) (entered_counts change place c.is_gone.result old new c.args.moment one (goes g c) (put_is g c) usable)
+    record_counted over one (record_size old.parts.log.files change) c.args.moment old new a b frames records place is_in.reserved stands refl usable.log log main put.tail file puts is_in.rows is_in.room
+    (entered_tree (key_of change) place c.is_gone.result any_record old new c.args.moment is_in (goes g c) put.tail usable) (entered_counts (key_of change) place c.is_gone.result any_record old new c.args.moment is_in (goes g c) put.tail usable)
     in
-    put_in over change c.args.moment old new a b frames records place stands refl c.requires.ready.late refl log main (put_is g c).next_seq file puts indexed counted
+    put_in over change c.args.moment old new a b frames records place stands refl c.requires.ready.late refl log main put.next_seq file puts indexed counted
 
 pub returns-in-Ok-put_change-clause-content : goal.returns-in-Ok-put_change-clause-content
 returns-in-Ok-put_change-clause-content g c told =
@@ -206,7 +224,7 @@ returns-in-Ok-put_change-clause-content g c told =
     let over = closes old change in
     let stands = c.requires.stands told in
     let puts = puts_is g c told (record { closed = stands.2.log.0; frames = stands.0; records = stands.1 }) stands.2.log.1 in
-    let same = put_records over c.args.moment (item_by (next_of old) change) old new a b stands.0 stands.1 place stands.2 ((goes g c).store ∙ c.requires.ready.usable.main) (number_after old new change c.args.moment place (put_is g c)) puts in
+    let same = put_records over c.args.moment (item_by (next_of old) change) old new a b stands.0 stands.1 place stands.2 ((goes g c).store ∙ c.requires.ready.usable.main) (number_after old new over (next_of old + 1) (record_size old.parts.log.files change) c.args.moment place refl (put_is g c)) puts in
     let now = returns-in-Ok-put_change-clause-wrote g c told stands.0 stands.1 stands.2 in
     put_content old new a b stands.0 (if over then [] else stands.0) stands.1 (if over then [] else stands.1) change stands.2 now.holds same
 
@@ -299,3 +317,61 @@ returns-in-Err-put_change-clause-kept g c told err unspoilt =
     let stands = c.requires.stands told in
     let puts = puts_refused g c told (record { closed = stands.2.log.0; frames = stands.0; records = stands.1 }) stands.2.log.1 in
     still_keeps old new a b c.args.moment stands.0 stands.1 stands.2 c.requires.ready.unspoilt c.requires.ready.late refl (refused_was g c told unspoilt) (puts.refused (sym c.is_spoilt-store.ensures ∙ unspoilt))
+
+-- what it held goes on
+
+pub returns-in_default-clause-grows : goal.returns-in_default-clause-grows
+returns-in_default-clause-grows g c told unspoilt frames records stands =
+    let old = c.args.store.now in
+    let new : LogStore = record old { latest = c.args.moment } in
+    let a = g.H.Host.state c.args.host.now in
+    grows_as_was old new a a (as_was old new a.files a.files refl (refl, refl, refl) refl (λ n. refl)) c.requires.ready.late (Stands-same a) frames records stands
+
+pub returns-in_default-copy-clause-grows : goal.returns-in_default-copy-clause-grows
+returns-in_default-copy-clause-grows g c told unspoilt frames records stands =
+    let old = c.args.store.now in
+    let new : LogStore = record old { latest = c.args.moment } in
+    let a = g.H.Host.state c.args.host.now in
+    grows_as_was old new a a (as_was old new a.files a.files refl (refl, refl, refl) refl (λ n. refl)) c.requires.ready.late (Stands-same a) frames records stands
+
+pub returns-in_default-reserve-clause-grows : goal.returns-in_default-reserve-clause-grows
+returns-in_default-reserve-clause-grows g c told unspoilt frames records stands =
+    let old = c.args.store.now in
+    let new : LogStore = record old { parts = record old.parts { stats = c.reserve.new.self }; latest = c.args.moment } in
+    let a = g.H.Host.state c.args.host.now in
+    grows_as_was old new a a (as_was old new a.files a.files refl (refl, refl, refl) c.reserve.ensures.rows (λ n. refl)) c.requires.ready.late (Stands-same a) frames records stands
+
+pub returns-in-Err-clause-grows : goal.returns-in-Err-clause-grows
+returns-in-Err-clause-grows g c told unspoilt frames records stands =
+    let old = c.args.store.now in
+    let new : LogStore = record old { parts = c.seat.new.self; latest = c.args.moment } in
+    let a = g.H.Host.state c.args.host.now in
+    grows_as_was old new a a (seated_was c.in-Ok-copy.seated old new a frames records c.reserve.new.self stands c.reserve.ensures.rows c.seat.ensures.seats c.requires.ready.late) c.requires.ready.late (Stands-same a) frames records stands
+
+pub returns-in-Ok-put_change-clause-grows : goal.returns-in-Ok-put_change-clause-grows
+returns-in-Ok-put_change-clause-grows g c told unspoilt frames records stands =
+    let old = c.args.store.now in
+    let new : LogStore = record old { parts = c.note.new.self; latest = c.args.moment } in
+    let change = c.args.change.now in
+    let place = c.in-Ok-put_change.place in
+    let a = g.H.Host.state c.args.host.now in
+    let b = g.H.Host.state c.put_change.new.host in
+    let over = closes old change in
+    let puts = puts_is g c told (record { closed = stands.log.0; frames = frames; records = records }) stands.log.1 in
+    let file = number_after old new over (next_of old + 1) (record_size old.parts.log.files change) c.args.moment place refl (put_is g c) in
+    let main = (goes g c).store ∙ c.requires.ready.usable.main in
+    record {
+      fs = if over then [] else frames;
+      rs = (if over then [] else records) ++ item_by (next_of old) change ∷ [];
+      holds = (returns-in-Ok-put_change-clause-wrote g c told frames records stands).holds;
+      grows = record_grows over c.args.moment (item_by (next_of old) change) old new a b frames records place stands c.requires.ready.usable.log.some main file puts;
+    }
+
+pub returns-in-Err-put_change-clause-grows : goal.returns-in-Err-put_change-clause-grows
+returns-in-Err-put_change-clause-grows g c told unspoilt frames records stands =
+    let old = c.args.store.now in
+    let new : LogStore = record old { parts = record c.unseat.new.self { spoilt = c.is_spoilt-store.result }; latest = c.args.moment } in
+    let a = g.H.Host.state c.args.host.now in
+    let b = g.H.Host.state c.put_change.new.host in
+    let puts = puts_refused g c told (record { closed = stands.log.0; frames = frames; records = records }) stands.log.1 in
+    grows_as_was old new a b (refused_was g c told unspoilt) c.requires.ready.late (puts.refused (sym c.is_spoilt-store.ensures ∙ unspoilt)) frames records stands

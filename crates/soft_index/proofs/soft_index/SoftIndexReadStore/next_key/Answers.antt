@@ -1,8 +1,12 @@
 use Rattle.std.specs.Prelude.{option_map}
-use Rattle.soft_index.specs.Store.{log_facts, log_means}
+use Rattle.soft_index.specs.Turns.{run_facts, run_means}
 use Rattle.soft_index.specs.Rule.{Allows}
-use Rattle.soft_index.proofs.Ruled.{walked_ruled}
+use Rattle.soft_index.proofs.Ruled.{plain_ruled, walked_ruled}
 use Rattle.soft_index.proofs.soft_index.SoftIndexReadStore.next_key.Goals as goal
+
+pub returns-clause-plain : goal.returns-clause-plain
+returns-clause-plain g c =
+    plain_ruled (run_facts c.args.self.now.log) (run_facts c.next_key.new.self) _ _ (Allows g.F.Fn c.args.self.now.forget) (λ key none. absurd none) (λ key none. absurd none) c.args.moment c.next_key.result (λ is. (is.0, is.1, c.requires.ready.usable.2)) c.next_key.ensures.plain
 
 pub returns-clause-told : goal.returns-clause-told
 returns-clause-told g c told =
@@ -10,4 +14,4 @@ returns-clause-told g c told =
     let new = c.next_key.new.self in
     let a = g.H.Host.state c.args.host.now in
     let b = g.H.Host.state c.next_key.new.host in
-    walked_ruled (log_facts old) (log_facts new) _ _ (Allows g.F.Fn c.args.self.now.forget) (λ key none. absurd none) (λ key none. absurd none) (option_map (λ key. key.now) c.args.after) (log_means old a) (log_means new b) a b c.args.moment c.next_key.result (c.next_key.ensures.told told)
+    walked_ruled (run_facts old) (run_facts new) _ _ (Allows g.F.Fn c.args.self.now.forget) (λ key none. absurd none) (λ key none. absurd none) (option_map (λ key. key.now) c.args.after) (run_means old a) (run_means new b) a b c.args.moment c.next_key.result (c.next_key.ensures.told told)

@@ -1,7 +1,11 @@
-use Rattle.soft_index.specs.Store.{log_facts, log_means}
+use Rattle.soft_index.specs.Turns.{run_facts, run_means}
 use Rattle.soft_index.specs.Rule.{Allows}
-use Rattle.soft_index.proofs.Ruled.{written_ruled}
+use Rattle.soft_index.proofs.Ruled.{plain_ruled, written_ruled}
 use Rattle.soft_index.proofs.soft_index.SoftIndexStore.write.Goals as goal
+
+pub returns-clause-plain : goal.returns-clause-plain
+returns-clause-plain g c =
+    plain_ruled (run_facts c.args.self.now.log) (run_facts c.write.new.self) _ _ (Allows g.F.Fn c.args.self.now.forget) (λ key none. absurd none) (λ key none. absurd none) c.args.moment c.write.result (λ is. (is.0, is.1, c.requires.ready.usable.2)) c.write.ensures.plain
 
 pub returns-clause-told : goal.returns-clause-told
 returns-clause-told g c told =
@@ -9,4 +13,4 @@ returns-clause-told g c told =
     let new = c.write.new.self in
     let a = g.H.Host.state c.args.host.now in
     let b = g.H.Host.state c.write.new.host in
-    written_ruled (log_facts old) (log_facts new) _ _ (Allows g.F.Fn c.args.self.now.forget) (λ key none. absurd none) (λ key none. absurd none) c.args.change.now (log_means old a) (log_means new b) a b c.args.moment c.write.result (c.write.ensures.told told)
+    written_ruled (run_facts old) (run_facts new) _ _ (Allows g.F.Fn c.args.self.now.forget) (λ key none. absurd none) (λ key none. absurd none) c.args.change.now (run_means old a) (run_means new b) a b c.args.moment c.write.result (c.write.ensures.told told)

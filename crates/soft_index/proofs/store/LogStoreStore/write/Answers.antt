@@ -7,7 +7,9 @@ use Rattle.cache_disk.proofs.Runs.{Stands-same}
 use Rattle.store_trait.specs.Meaning.{changed}
 use Rattle.soft_index.specs.declared.log_store.LogStore.{LogStore}
 use Rattle.soft_index.specs.Store.{IsWritten, content_of, log_facts, spent_by}
+use Rattle.append_log.specs.Current.{number_of}
 use Rattle.soft_index.proofs.Changes.{as_was, still_acts}
+use Rattle.soft_index.proofs.Growing.{grows_still, grows_then}
 use Rattle.soft_index.proofs.Putting.{spent_number, written_from}
 use Rattle.soft_index.proofs.Roomed.{entered_after}
 use Rattle.soft_index.proofs.Turning.{plainly_then}
@@ -93,3 +95,25 @@ returns-clause-told g c told =
     let first = c.in_default-make_room.ensures.told told in
     let second = c.enter.ensures.told told in
     entered_after old mid new a b d c.args.change.now c.args.moment c.enter.result c.make_room.ensures.plain.same same first second (c.make_room.ensures.rows unspoilt) c.make_room.ensures.limit c.in_default-make_room.ensures.room
+
+-- what it held goes on
+
+pub returns-in-Some-clause-grows : goal.returns-in-Some-clause-grows
+returns-in-Some-clause-grows g c told unspoilt = cc
+
+pub returns-in-Err-clause-grows : goal.returns-in-Err-clause-grows
+returns-in-Err-clause-grows g c told unspoilt frames records stands =
+    let ens = c.make_room.ensures in
+    grows_still c.args.self.now c.make_room.new.store (g.H.Host.state c.args.host.now) (g.H.Host.state c.make_room.new.host) frames records (ap number_of (ens.log unspoilt)) (ens.still told) (ens.kept told unspoilt frames records stands)
+
+pub returns-clause-grows : goal.returns-clause-grows
+returns-clause-grows g c told unspoilt frames records stands =
+    let old = c.args.self.now in
+    let mid = c.make_room.new.store in
+    let a = g.H.Host.state c.args.host.now in
+    let b = g.H.Host.state c.make_room.new.host in
+    let d = g.H.Host.state c.enter.new.host in
+    let ens = c.make_room.ensures in
+    let sound = c.in_default-make_room.ensures.plain.unspoilt in
+    let room = grows_still old mid a b frames records (ap number_of (ens.log sound)) (ens.still told) (ens.kept told sound frames records stands) in
+    grows_then old mid c.enter.new.store a b d frames records room (c.enter.ensures.grows told unspoilt)
