@@ -21,14 +21,14 @@ use Rattle.store_trait.specs.Calls.{IsNumbered}
 use Rattle.cache_session.specs.Changing.{of_key}
 use Rattle.cache_session.specs.Turns.{files_of, files_by, KeepsBy, IsContentAfter, Turns, Goes}
 use Rattle.cache_cli.specs.Fitting.{IsLog}
-use Rattle.cache_cli.specs.Parts.{ActorMoves, RowsMove, FollowsParts}
+use Rattle.cache_cli.specs.Parts.{ActorMoves, RowsMove}
 use Rattle.cache_cli.specs.Pump.{background_step, files_by_steps}
 use Rattle.cache_cli.specs.Saying.{ended_by, IsNoDamage}
 use Rattle.cache_cli.specs.Talk.{Course, Talk, HasRead, done_in, plain_of, is_over, hand_of, next_command, asked_in}
 use Rattle.cache_cli.specs.Run.{View, IsLater, IsPumping, HoldsSince, EndsAtSpent, EndsBy, Pumped}
-use Rattle.cache_cli.proofs.Later.{later_by, talk_later, moved_later}
+use Rattle.cache_cli.proofs.Later.{later_by, read_at, talk_later, moved_later}
 use Rattle.cache_cli.proofs.Logs.{log_on}
-use Rattle.cache_cli.proofs.Moving.{actor_moves}
+use Rattle.cache_cli.proofs.Moving.{follows_same, actor_moves}
 use Rattle.cache_cli.proofs.Pumping.{has_stepped, files_later}
 use Rattle.cache_cli.proofs.Running.{GoesOnTo, turn_holds, kept_tells}
 use Rattle.cache_cli.proofs.Ending.{quiet_end, says_of, ends_early, ends_by_fault}
@@ -67,16 +67,18 @@ module _ (from : HostState) (course : Course) (ordered : Bool) (left : List (Lis
     said_still = quiet_end old.host new.host turn.did.others.images.later turn.did.silent
 
   -- it was taken
-  pub step_taken : (reply : Reply) → FollowsParts course.pace.queue new.facts new.store → spoilt ≡ false → new.moment ≡ old.moment
+  pub step_taken : (reply : Reply) → old.host.left old.host.turn old.host.files → spoilt ≡ false → new.moment ≡ old.moment
       → Turns [] (plain_of talk) (Step kind) old.facts new.facts spoilt old.store new.store old.host new.host (Ok reply)
       → Pumped from course ordered left talk (suc taken) new (Ok tt)
-  step_taken reply follows unspoilt moment turn =
+  step_taken reply reads unspoilt moment turn =
       let so = pumping.0 in
       let nothing = none (Ok reply) turn in
       let holds = step_holds (Ok reply) turn in
-      let moves = subst (λ (k : StepKind). RowsMove course.pace.queue (ActorMoves k turn.store.0) old.facts.parts new.facts.parts) is
-      (actor_moves course.pace.queue old.facts old.store so.follows kind turn.store.0 old.facts.parts new.facts.parts turn.store.2) in
+      let follows = follows_same course.pace old.facts new.facts same so.follows in
       let later = later_turn (Ok reply) turn in
+      let read = read_at course old.host new.host (omega (arith, so.holds.since, so.holds.others.images.later)) reads later in
+      let moves = subst (λ (k : StepKind). RowsMove course.pace.queue (ActorMoves (HasRead course new.host) course.pace k turn.store.0) old.facts.parts new.facts.parts) is
+      (actor_moves course.pace old.facts so.follows (HasRead course new.host) old.host.files read kind turn.store.0 old.facts.parts new.facts.parts turn.store.2) in
       let before = moved_later course old.host new.host later talk.opening talk.answered talk.responses taken old.facts.parts so.parts in
       let moved = has_stepped (HasRead course new.host) course.pace talk.opening talk.answered talk.responses taken old.facts.parts new.facts.parts before turn.store.0 room moves in
       record {

@@ -8,7 +8,7 @@ use Rattle.cache_model.specs.Plain.{Plain, plain_reply}
 use Rattle.cache_model.specs.Replies.{replies}
 use Rattle.cache_model.specs.Transcript.{IsReply}
 use Rattle.cache_model.specs.Files.{Image}
-use Rattle.store_trait.specs.Meaning.{Row, StoreFacts, StoreState}
+use Rattle.store_trait.specs.Meaning.{Row, StoreFacts}
 use Rattle.cache_session.specs.Turns.{IsBuilt, IsReplyOf, IsStoreReply, figures_of}
 
 pub line_built : (command : Command) → HasLine command → IsBuilt command
@@ -18,9 +18,9 @@ line_built Export h = absurd h
 line_built command h = tt
 
 -- the reply of a turn is one that a talk may have
-pub reply_is : (command : Command) (plain : Plain) (reply : Reply) (f : StoreFacts) (s : StoreState) (files : Image) (a b : List Row)
-    → IsBuilt command → IsReplyOf (plain_reply [] plain command) reply → IsStoreReply command f s files a b reply → IsReply command (plain_reply [] plain command) (replies reply)
-reply_is (Step kind) plain reply f s files a b built is store = (reply, (store.0, store.1), refl)
-reply_is (CompactFile number) plain reply f s files a b built is store = absurd built
-reply_is Stats plain reply f s files a b built is store = (reply, (figures_of store.0, store.1), refl)
-reply_is command plain reply f s files a b built is store = ap replies is
+pub reply_is : (command : Command) (plain : Plain) (reply : Reply) (f : StoreFacts) (files : Image) (a b : List Row)
+    → IsBuilt command → IsReplyOf (plain_reply [] plain command) reply → IsStoreReply command f files a b reply → IsReply command (plain_reply [] plain command) (replies reply)
+reply_is (Step kind) plain reply f files a b built is store = (reply, (store.0, store.1), refl)
+reply_is (CompactFile number) plain reply f files a b built is store = absurd built
+reply_is Stats plain reply f files a b built is store = (reply, (figures_of store.0, store.1), refl)
+reply_is command plain reply f files a b built is store = ap replies is

@@ -17,8 +17,8 @@ use Rattle.cache_cli.specs.Talk.{Course, Talk, HasRead, done_in, plain_of, next_
 use Rattle.cache_cli.specs.Run.{View, IsLater, IsTalking, EndsBy, Does}
 use Rattle.cache_cli.specs.Parts.{FollowsParts}
 use Rattle.cache_cli.proofs.Built.{reply_is}
-use Rattle.cache_cli.proofs.Later.{later_by}
-use Rattle.cache_cli.proofs.Moving.{command_moves, room_moves}
+use Rattle.cache_cli.proofs.Later.{later_by, read_at}
+use Rattle.cache_cli.proofs.Moving.{follows_same, command_moves, room_moves}
 use Rattle.cache_cli.proofs.Running.{command_holds, done_tells, kept_tells}
 use Rattle.cache_cli.proofs.Ending.{quiet_end, ends_early, ends_spent, ends_by_fault}
 
@@ -39,20 +39,23 @@ module _ (from : HostState) (course : Course) (ordered : Bool) (left : List (Lis
     (talking : IsTalking from course ordered left talk old)
     (hand : next_command left ≡ command ∷ [])
     (same : SameStore old.facts new.facts) where
+  follows : FollowsParts course.pace new.facts
+  follows = follows_same course.pace old.facts new.facts same talking.0.follows
+
   -- a turn leads to a later host
   later_turn : (result : Result Reply StoreFault) → Turns [] (plain_of talk) command old.facts new.facts spoilt old.store new.store old.host new.host result → IsLater old.host new.host
   later_turn result turn = later_by old.host new.host (SameWhere old.facts.owns false) turn.did.others.images
 
   -- a command was done
-  pub does_ok : (reply : Reply) → IsBuilt command → old.host.left old.host.turn old.host.files → FollowsParts course.pace.queue new.facts new.store → spoilt ≡ false → HoldsNow new.facts new.store new.host.turn → new.moment ≡ moment_after old.moment command
+  pub does_ok : (reply : Reply) → IsBuilt command → old.host.left old.host.turn old.host.files → spoilt ≡ false → HoldsNow new.facts new.store new.host.turn → new.moment ≡ moment_after old.moment command
       → Turns [] (plain_of talk) command old.facts new.facts spoilt old.store new.store old.host new.host (Ok reply)
       → Does from course ordered left talk command old new (Ok (Some reply))
-  does_ok reply built reads follows unspoilt now moment turn = record {
+  does_ok reply built reads unspoilt now moment turn = record {
     goes = (
-      reply_is command (plain_of talk) reply old.facts old.store old.host.files old.facts.parts new.facts.parts built turn.reply turn.store,
+      reply_is command (plain_of talk) reply old.facts old.host.files old.facts.parts new.facts.parts built turn.reply turn.store,
       λ next said answered responses ended done is_talk moved says.
           done_tells from course ordered left talk old new command spoilt talking hand same reply next said answered responses ended turn unspoilt now moment follows done is_talk moved says,
-      command_moves course.pace.queue old.facts old.store talking.0.follows (HasRead course new.host) old.host.files read command (plain_of talk) turn.changes turn.order reply old.facts.parts new.facts.parts turn.did.parts turn.store,
+      command_moves course.pace old.facts talking.0.follows (HasRead course new.host) old.host.files read command (plain_of talk) turn.changes turn.order reply old.facts.parts new.facts.parts turn.did.parts turn.store,
     );
     silent = quiet_end old.host new.host turn.did.others.images.later turn.did.silent;
     later = later_turn (Ok reply) turn;
@@ -63,14 +66,13 @@ module _ (from : HostState) (course : Course) (ordered : Bool) (left : List (Lis
       -- the files as they read at the turn before
       read : HasRead course new.host old.host.files
       read =
-          let later = later_turn (Ok reply) turn in
-          (old.host.turn, omega (arith, talking.0.holds.since, talking.0.holds.others.images.later), later.later, later.kept old.host.turn old.host.files (omega arith) reads)
+          read_at course old.host new.host (omega (arith, talking.0.holds.since, talking.0.holds.others.images.later)) reads (later_turn (Ok reply) turn)
 
   -- a command was refused for want of memory
-  pub does_refused : FollowsParts course.pace.queue new.facts new.store → spoilt ≡ false → may_be_refused command ≡ true → new.moment ≡ old.moment
+  pub does_refused : spoilt ≡ false → may_be_refused command ≡ true → new.moment ≡ old.moment
       → Turns [] (plain_of talk) command old.facts new.facts spoilt old.store new.store old.host new.host (Err fault.Memory)
       → Does from course ordered left talk command old new (Ok None)
-  does_refused follows unspoilt may moment turn =
+  does_refused unspoilt may moment turn =
       let kept = turn.did.refused refl unspoilt in
       let holds = command_holds from course ordered left talk old new command spoilt talking hand same (Err fault.Memory) turn in
       let asked = asked_in course talk in
@@ -81,7 +83,7 @@ module _ (from : HostState) (course : Course) (ordered : Bool) (left : List (Lis
               kept_tells from course ordered left next talk asked asked old new (old.host.said old.host.turn) said answered responses ended 0 talking.0 same turn.did.others.images.later kept.keeps kept.content
               kept.numbers.numbers kept.numbers.drawn (omega (arith, kept.numbers.made)) (omega arith) (turn.did.stands unspoilt) (turn.did.sound talking.0.sound) moment follows holds
               (done ∙ append-nil (done_in talk)) is_talk moved says,
-          room_moves course.pace.queue old.facts old.store talking.0.follows old.facts.parts new.facts.parts kept.parts,
+          room_moves course.pace old.facts talking.0.follows old.facts.parts new.facts.parts kept.parts,
         );
         silent = quiet_end old.host new.host turn.did.others.images.later turn.did.silent;
         later = later_turn (Err fault.Memory) turn;

@@ -16,7 +16,7 @@ use Rattle.cache_model.specs.Transcript.{Answers, command_done, ends_talk}
 use Rattle.cache_disk.specs.State.{HostState}
 use Rattle.cache_disk.specs.Calls.{and_then_said}
 use Rattle.store_trait.specs.Meaning.{Row}
-use Rattle.cache_cli.specs.Parts.{Parts, AnswerMoves, RowsMove}
+use Rattle.cache_cli.specs.Parts.{Pace, Parts, AnswerMoves, RowsMove}
 use Rattle.cache_cli.specs.Pump.{HasMoved}
 use Rattle.cache_cli.specs.Talk.{Course, Talk, HasRead, done_in, plain_of, is_over, asked_in}
 use Rattle.cache_cli.specs.Run.{View, IsLater, TellsMore, DoesBy, IsTelling, IsTalking, IsInHand, Told, AnswersBy, Answered, LongAnswered, Closed}
@@ -44,18 +44,18 @@ none_done (asks command) refusal = refl
 none_done (refuses other) refusal = refl
 
 -- and leaves the rows
-left_so : (read : Image → Type 0) (queue : ℕ) (plain : Plain) (meaning : LineMeaning) (refusal : Refusal) (a : Parts) → AnswerMoves read queue plain meaning (refused refusal) a a
-left_so read queue plain (asks command) refusal a = inl refl
-left_so read queue plain (refuses other) refusal a = refl
+left_so : (read : Image → Type 0) (pace : Pace) (plain : Plain) (meaning : LineMeaning) (refusal : Refusal) (a : Parts) → AnswerMoves read pace plain meaning (refused refusal) a a
+left_so read pace plain (asks command) refusal a = inl refl
+left_so read pace plain (refuses other) refusal a = refl
 
 -- the rows with one answer more
 moved-append : (read : Image → Type 0) (course : Course) (left : List (List ℕ)) (talk : Talk) (going : is_over talk ≡ false) (line : List ℕ) (response : Response) (rows next : List Row)
     → HasMoved read course.pace talk.opening talk.answered talk.responses (asked_in course talk) rows
-    → RowsMove course.pace.queue (AnswerMoves read course.pace.queue (plain_of talk) (meaning_of line) response) rows next
+    → RowsMove course.pace.queue (AnswerMoves read course.pace (plain_of talk) (meaning_of line) response) rows next
     → HasMoved read course.pace talk.opening (talk.answered ++ line ∷ []) (talk.responses ++ response ∷ []) (asked_in course talk) next
 moved-append read course left talk going line response rows next moved moves =
     has_answered read course.pace talk.opening talk.answered talk.responses (asked_in course talk) rows next moved line response refl
-    (subst (λ (cs : List Command). RowsMove course.pace.queue (AnswerMoves read course.pace.queue (plain_after_all talk.opening cs) (meaning_of line) response) rows next) (done-going course left talk going) moves)
+    (subst (λ (cs : List Command). RowsMove course.pace.queue (AnswerMoves read course.pace (plain_after_all talk.opening cs) (meaning_of line) response) rows next) (done-going course left talk going) moves)
 
 pub refusal_in_hand : (from : HostState) (course : Course) (ordered : Bool) (left : List (List ℕ)) (talk : Talk) (line : List ℕ) (refusal : Refusal) (now : View)
     → IsTalking from course ordered (line ∷ left) talk now
@@ -66,7 +66,7 @@ refusal_in_hand from course ordered left talk line refusal now talking answers =
     let is = talking.0.is_talk in
     let rows = now.facts.parts in
     let read = HasRead course now.host in
-    let moved = moved-append read course left talk talking.1 line response rows rows talking.0.parts (λ a at within. (a, at, within, left_so read course.pace.queue (plain_of talk) (meaning_of line) refusal a)) in
+    let moved = moved-append read course left talk talking.1 line response rows rows talking.0.parts (λ a at within. (a, at, within, left_so read course.pace (plain_of talk) (meaning_of line) refusal a)) in
     retell from course ordered (line ∷ left) left talk (asked_in course talk) now (now.host.said now.host.turn) (and_then_said (now.host.said now.host.turn) (line_of (refusal_text refusal)))
     (talk.answered ++ line ∷ []) (talk.responses ++ response ∷ []) talk.ended talking.0
     (done-append course left talk talking.1 read line response is ∙ ap (λ (cs : List Command). done_in talk ++ cs) (none_done (meaning_of line) refusal) ∙ append-nil (done_in talk))
@@ -81,7 +81,7 @@ turned_in_hand : (from : HostState) (course : Course) (ordered : Bool) (left : L
     → now.host.said now.host.turn ≡ old.host.said old.host.turn
     → IsLater old.host now.host
     → TellsMore from course ordered talk commands now
-    → RowsMove course.pace.queue (AnswerMoves (HasRead course now.host) course.pace.queue (plain_of talk) (meaning_of line) response) old.facts.parts now.facts.parts
+    → RowsMove course.pace.queue (AnswerMoves (HasRead course now.host) course.pace (plain_of talk) (meaning_of line) response) old.facts.parts now.facts.parts
     → IsInHand from course ordered left (with_answer talk line response) (asked_in course talk) (line_of (response_text response)) now
 turned_in_hand from course ordered left talk line response commands old now talking answers done said later more moves =
     let read = HasRead course now.host in
@@ -104,7 +104,7 @@ pub reply_in_hand : (from : HostState) (course : Course) (ordered : Bool) (left 
 reply_in_hand from course ordered left talk line command reply old now talking asked said later did =
     turned_in_hand from course ordered left talk line (replies reply) (command ∷ []) old now talking
     (subst (λ (m : LineMeaning). Answers [] (plain_of talk) m (replies reply)) (sym asked) (inl did.0)) (ap (λ (m : LineMeaning). command_done m (replies reply)) asked) said later did.1
-    (subst (λ (m : LineMeaning). RowsMove course.pace.queue (AnswerMoves (HasRead course now.host) course.pace.queue (plain_of talk) m (replies reply)) old.facts.parts now.facts.parts) (sym asked) did.2)
+    (subst (λ (m : LineMeaning). RowsMove course.pace.queue (AnswerMoves (HasRead course now.host) course.pace (plain_of talk) m (replies reply)) old.facts.parts now.facts.parts) (sym asked) did.2)
 
 -- the refusal of a command for want of memory is in hand
 pub memory_in_hand : (from : HostState) (course : Course) (ordered : Bool) (left : List (List ℕ)) (talk : Talk) (line : List ℕ) (command : Command) (old now : View)
@@ -117,7 +117,7 @@ pub memory_in_hand : (from : HostState) (course : Course) (ordered : Bool) (left
 memory_in_hand from course ordered left talk line command old now talking asked said later did =
     turned_in_hand from course ordered left talk line (refused memory) [] old now talking
     (subst (λ (m : LineMeaning). Answers [] (plain_of talk) m (refused memory)) (sym asked) (inr (refl, did.0))) (none_done (meaning_of line) memory) said later did.1
-    (subst (λ (m : LineMeaning). RowsMove course.pace.queue (AnswerMoves (HasRead course now.host) course.pace.queue (plain_of talk) m (refused memory)) old.facts.parts now.facts.parts) (sym asked) did.2)
+    (subst (λ (m : LineMeaning). RowsMove course.pace.queue (AnswerMoves (HasRead course now.host) course.pace (plain_of talk) m (refused memory)) old.facts.parts now.facts.parts) (sym asked) did.2)
 
 -- the answer to the end of the script is in hand
 pub end_in_hand : (from : HostState) (course : Course) (ordered : Bool) (talk : Talk) (reply : Reply) (old now : View)

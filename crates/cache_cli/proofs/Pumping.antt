@@ -9,8 +9,8 @@ use Rattle.cache_model.specs.Replies.{Response}
 use Rattle.cache_model.specs.Transcript.{after_answer, command_done, commands_done}
 use Rattle.cache_model.proofs.Prefixes.{plain_after_all-append}
 use Rattle.store_trait.specs.Meaning.{Row}
-use Rattle.cache_cli.specs.Parts.{Parts, RowsMove, ActorMoves, AnswerMoves, no_parts}
-use Rattle.cache_cli.specs.Pump.{Pace, background_step, StepsMove, files_by_steps, steps_behind, steps_asked, PartsThrough, HasMoved}
+use Rattle.cache_cli.specs.Parts.{Pace, Parts, RowsMove, ActorMoves, AnswerMoves, no_parts}
+use Rattle.cache_cli.specs.Pump.{background_step, StepsMove, files_by_steps, steps_behind, steps_asked, PartsThrough, HasMoved}
 use Rattle.cache_cli.proofs.Answering.{after-answer}
 
 -- how many background steps follow one answer more
@@ -21,10 +21,10 @@ asked-append pump responses response = sum_by_push (steps_behind pump) responses
 through_step : (read : Image → Type 0) (pace : Pace) (taken due : ℕ) (plain : Plain) (lines : List (List ℕ)) (responses : List Response) (a : Parts) (all : ℕ) (b c : Parts) (turned : Turned)
     → PartsThrough read pace taken due plain lines responses a all b
     → suc all ≤ taken + due + steps_asked pace.pump responses
-    → ActorMoves (background_step all) turned b c
+    → ActorMoves read pace (background_step all) turned b c
     → PartsThrough read pace taken due plain lines responses a (suc all) c
 through_step read pace taken due plain [] [] a all b c turned is room moves =
-    (suc is.0, omega (arith, room, is.2), omega (arith, is.2), (b, turned, is.3, subst (λ (n : ℕ). ActorMoves (background_step n) turned b c) is.2 moves))
+    (suc is.0, omega (arith, room, is.2), omega (arith, is.2), (b, turned, is.3, subst (λ (n : ℕ). ActorMoves read pace (background_step n) turned b c) is.2 moves))
 through_step read pace taken due plain [] (r ∷ responses) a all b c turned is room moves = absurd is
 through_step read pace taken due plain (l ∷ lines) [] a all b c turned is room moves = absurd is
 through_step read pace taken due plain (l ∷ lines) (r ∷ responses) a all b c turned is room moves = (
@@ -40,11 +40,11 @@ through_step read pace taken due plain (l ∷ lines) (r ∷ responses) a all b c
 through_answer : (read : Image → Type 0) (pace : Pace) (taken due : ℕ) (plain : Plain) (lines : List (List ℕ)) (responses : List Response) (line : List ℕ) (response : Response) (a : Parts) (all : ℕ) (b c : Parts)
     → PartsThrough read pace taken due plain lines responses a all b
     → all ≡ taken + due + steps_asked pace.pump responses
-    → AnswerMoves read pace.queue (plain_after_all plain (commands_done lines responses)) (meaning_of line) response b c
+    → AnswerMoves read pace (plain_after_all plain (commands_done lines responses)) (meaning_of line) response b c
     → PartsThrough read pace taken due plain (lines ++ line ∷ []) (responses ++ response ∷ []) a all c
 through_answer read pace taken due plain [] [] line response a all b c is whole moves =
     let count : is.0 ≡ due = omega (arith, whole, is.2) in
-    (b, c, subst (λ (n : ℕ). StepsMove taken n a b) count is.3, moves, (0, omega arith, omega (arith, whole), refl))
+    (b, c, subst (λ (n : ℕ). StepsMove read pace taken n a b) count is.3, moves, (0, omega arith, omega (arith, whole), refl))
 through_answer read pace taken due plain [] (r ∷ responses) line response a all b c is whole moves = absurd is
 through_answer read pace taken due plain (l ∷ lines) [] line response a all b c is whole moves = absurd is
 through_answer read pace taken due plain (l ∷ lines) (r ∷ responses) line response a all b c is whole moves =
@@ -57,13 +57,13 @@ through_answer read pace taken due plain (l ∷ lines) (r ∷ responses) line re
       is.3,
       through_answer read pace (taken + due) (steps_behind pace.pump r) next lines responses line response is.1 all b c is.4
           (omega (arith, whole, sum_by-cons (steps_behind pace.pump) r responses))
-          (subst (λ (p : Plain). AnswerMoves read pace.queue p (meaning_of line) response b c) same moves),
+          (subst (λ (p : Plain). AnswerMoves read pace p (meaning_of line) response b c) same moves),
     )
 
 module _ (read : Image → Type 0) (pace : Pace) (plain : Plain) (lines : List (List ℕ)) (responses : List Response) (taken : ℕ) (rows next : List Row)
     (moved : HasMoved read pace plain lines responses taken rows) where
   -- the rows after one background step more
-  pub has_stepped : (turned : Turned) → suc taken ≤ steps_asked pace.pump responses → RowsMove pace.queue (ActorMoves (background_step taken) turned) rows next
+  pub has_stepped : (turned : Turned) → suc taken ≤ steps_asked pace.pump responses → RowsMove pace.queue (ActorMoves read pace (background_step taken) turned) rows next
       → HasMoved read pace plain lines responses (suc taken) next
   has_stepped turned room moves =
       let after = moves moved.parts moved.is_rows moved.within in
@@ -76,7 +76,7 @@ module _ (read : Image → Type 0) (pace : Pace) (plain : Plain) (lines : List (
 
   -- the rows after one answer more
   pub has_answered : (line : List ℕ) (response : Response) → taken ≡ steps_asked pace.pump responses
-      → RowsMove pace.queue (AnswerMoves read pace.queue (plain_after_all plain (commands_done lines responses)) (meaning_of line) response) rows next
+      → RowsMove pace.queue (AnswerMoves read pace (plain_after_all plain (commands_done lines responses)) (meaning_of line) response) rows next
       → HasMoved read pace plain (lines ++ line ∷ []) (responses ++ response ∷ []) taken next
   has_answered line response whole moves =
       let after = moves moved.parts moved.is_rows moved.within in

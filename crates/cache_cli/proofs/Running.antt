@@ -29,7 +29,6 @@ use Rattle.cache_cli.specs.Talk.{Course, Talk, HasRead, IsTalk, done_in, plain_o
 use Rattle.cache_cli.specs.Run.{View, IsLater, with_words, TellsAt, HoldsSince, IsTelling, IsPumping, IsTalking, IsInHand}
 use Rattle.cache_cli.proofs.Later.{later_by, talk_later, moved_later}
 use Rattle.cache_cli.proofs.Logs.{log_snoc, log_on}
-use Rattle.cache_cli.proofs.Moving.{follows_later}
 use Rattle.cache_cli.proofs.Standing.{in_turn, in_turn_whole, to_prefix, to_cut, fit_more, fit_all_more, done_one, kept_one, carried}
 
 -- a call that said nothing: what was said by a turn since then is what was said before
@@ -194,7 +193,7 @@ module _ (from : HostState) (course : Course) (ordered : Bool) (left : List (Lis
       → spoilt ≡ false
       → HoldsNow new.facts new.store new.host.turn
       → new.moment ≡ moment_after old.moment command
-      → FollowsParts course.pace.queue new.facts new.store
+      → FollowsParts course.pace new.facts
       → done_in (with_words talk answered responses ended) ≡ done_in talk ++ command ∷ []
       → IsTalk (HasRead course new.host) (with_words talk answered responses ended) course left_next
       → HasMoved (HasRead course new.host) course.pace talk.opening answered responses (asked_in course talk) new.facts.parts
@@ -239,7 +238,7 @@ pub kept_tells : (from : HostState) (course : Course) (ordered : Bool) (left lef
     → IsNumbered 0 old.facts.numbers new.facts.numbers → new.facts.drawn ≤ old.facts.drawn
     → new.facts.made ≤ old.facts.made + files → files_by_steps taken_next ≡ files_by_steps taken + files
     → new.store.stands → new.store.sound → new.moment ≡ old.moment
-    → FollowsParts course.pace.queue new.facts new.store
+    → FollowsParts course.pace new.facts
     → HoldsSince from course ordered new
     → done_in (with_words talk answered responses ended) ≡ done_in talk
     → IsTalk (HasRead course new.host) (with_words talk answered responses ended) course left_next
@@ -348,7 +347,7 @@ module _ (from : HostState) (course : Course) (ordered : Bool) (left : List (Lis
         opening = hand.opening;
         standing = standing.0;
         moment = hand.moment ∙ sym moment;
-        follows = subst (λ (f : StoreFacts). FollowsParts course.pace.queue f new.store) (sym same) (follows_later course.pace.queue old.facts old.store hand.follows old.host.turn new.host.turn new.store carries);
+        follows = subst (λ (f : StoreFacts). FollowsParts course.pace f) (sym same) hand.follows;
         parts = subst (λ (f : StoreFacts). HasMoved (HasRead course new.host) course.pace talk.opening talk.answered talk.responses taken f.parts) (sym same) moved;
         numbers = numbered_by (length hand.standing.log) (length standing.0.log) (Some talk.first) new.facts.numbers (sym standing.1)
             (subst (λ (f : StoreFacts). IsNumbered (length hand.standing.log) (Some talk.first) f.numbers) (sym same) hand.numbers);

@@ -1,8 +1,6 @@
 -- The run of the whole program, by what the run over its store told.
 use Rattle.std.proofs.Common.{◌≡◌, ◌⊎◌, inl, inr, ⊎_elim, ℕ, ◌+◌, ◌-◌, ◌^◌, ◌≤◌, ◌<◌, Bool, true, false, List, [], ◌∷◌, ◌++◌, take, length, Option, Some, None, Result, Ok, Err, refl, sym, ◌∙◌, ap, subst, arith}
 use Rattle.std.specs.Prelude.{max, min, is_some}
-use Rattle.std.specs.Fn.{Shared}
-use denote.Ref.{Bor}
 use Rattle.std.proofs.lemmas.Bool.{cases_lt}
 use Rattle.cache_model.specs.declared.entries.Entry.{Entry}
 use Rattle.cache_model.specs.declared.faults.Damage.{Damage}
@@ -25,27 +23,27 @@ use Rattle.cache_model.specs.Images.{IsCounted, IsMark, IsSound, HasEntry, SameR
 use Rattle.cache_model.proofs.Existing.{mark_exists, mark_is_single}
 use Rattle.cache_disk.specs.State.{HostState, SameFiles, Stands}
 use Rattle.cache_disk.specs.Calls.{AllLeft, and_then_said}
-use Rattle.store_trait.specs.Meaning.{Reading, Content, Row, Numbers, seen, StoreFacts, StoreState, read_in}
-use Rattle.store_trait.specs.Keeping.{Leaves, IsSettled, SameStore}
+use Rattle.store_trait.specs.Meaning.{Reading, Content, Row, seen, StoreFacts, StoreState, read_in}
+use Rattle.store_trait.specs.Keeping.{Leaves, IsSettled}
 use Rattle.store_trait.specs.Calls.{IsReady}
 use Rattle.store_trait.proofs.Runs.{leaves_then}
 use Rattle.cache_script.specs.Damages.{damage_line}
-use Rattle.data_file.specs.declared.appender.Appender.{Appender}
 use Rattle.soft_index.specs.declared.soft_index.SoftIndex.{SoftIndex}
-use Rattle.soft_index.specs.Compacting.{Run, row_with, CountsBy}
-use Rattle.soft_index.specs.Index.{IsRead, IsStarted, index_facts, index_means, log_of}
+use Rattle.soft_index.specs.Compacting.{Run, ByRun, CompactsBy, CountsBy, GoesOnWith, TakesAction, row_with, with_run}
+use Rattle.soft_index.specs.Index.{IsRead, IsStarted, index_means}
 use Rattle.rebuild.specs.Listing.{IsFirstDamageOf}
-use Rattle.soft_index.specs.Store.{AreInRange as IsInRangeOfStore, HasReading, MakesRoom, Queues, row_of, current_of, next_file, log_facts, owns_file, StepsBy}
+use Rattle.soft_index.specs.Store.{AreInRange as IsInRangeOfStore, HasReading, MakesRoom, Queues, owns_file}
+use Rattle.soft_index.specs.Steps.{StepsIn}
 use Rattle.cache_session.specs.declared.session.Session.{Session}
 use Rattle.cache_session.specs.Changing.{of_key}
 use Rattle.cache_session.specs.Turns.{store_of, moment_of, is_broken, IsFit}
 use Rattle.cache_cli.specs.Fitting.{entry_of_reading}
 use Rattle.cache_cli.specs.Talk.{Course, FitsTalkTogether, HoldsAtTurn, HoldsTogetherAtTurn, done_in, is_over, hand_of}
-use Rattle.cache_cli.specs.Parts.{Parts, rows_of, no_parts, ChangeMoves, IndexingMoves, ActorMoves, RoomMoves, RowsMove, FollowsParts}
+use Rattle.cache_cli.specs.Parts.{Pace, Parts, rows_of, no_parts, ChangeMoves, CompactingMoves, ActorMoves, RoomMoves, RowsMove, FollowsParts}
 use Rattle.cache_cli.specs.Run.{View, view, view_by, TellsAt, HoldsSince, EndsSaying, EndsAtSpent, EndsBy}
 use Rattle.cache_cli.specs.Ends.{EndsSpent, Ends, EndsRefused}
 use Rattle.cache_cli.specs.Opening.{Begins, Finished}
-use Rattle.cache_cli.specs.Serving.{queue_of, course_by, IsStill, IsOpenedFrom, Serves, TellsDamage, HoldsTogetherFrom}
+use Rattle.cache_cli.specs.Serving.{pace_of, course_by, IsStill, IsOpenedFrom, Serves, TellsDamage, HoldsTogetherFrom}
 use Rattle.cache_cli.proofs.Same.{same_then, same_back, records_same, mark_same, sound_same, next_sequence_same, next_file_same}
 use Rattle.cache_cli.proofs.Contents.{opening_of, entry_read, content_exists}
 use Rattle.cache_cli.proofs.Logs.{log_of_key}
@@ -238,68 +236,114 @@ abbrev first_queued : List Row → ℕ
 first_queued [] = 0
 first_queued (row ∷ rows) = row.queued
 
-store_moves : (queue : ℕ) (rows next : List Row) → Queues queue rows next → RowsMove queue (ChangeMoves queue) rows next
-store_moves queue rows next moves = λ a is within.
-    let queued : a.queued ≡ moves.0 = ap first_queued (sym is ∙ moves.3) in (
-      record { queued = min (moves.0 + 1) queue; current = Some moves.2 },
-      moves.4,
+-- rows that a call leaves, with their run
+left_by_run : (queue : ℕ) (turned : Turned) (rows next : List Row) → ByRun (λ a b. (turned ≡ Idle) × (b ≡ a)) rows next → RowsMove queue (λ a b. (turned ≡ Idle) × (b ≡ a)) rows next
+left_by_run queue turned rows next by = λ a is within. (a, by.5 ∙ ap (with_run by.0) by.3.1 ∙ sym by.4 ∙ is, within, (by.3.0, refl))
+
+store_moves : (queue : ℕ) (rows next : List Row) → ByRun (Queues queue) rows next → RowsMove queue (ChangeMoves queue) rows next
+store_moves queue rows next by = λ a is within.
+    let moves = by.3 in
+    let was : rows_of a ≡ row_with moves.0 moves.1 by.0 = sym is ∙ by.4 ∙ ap (with_run by.0) moves.3 in
+    let queued : a.queued ≡ moves.0 = ap first_queued was in (
+      record { queued = min (moves.0 + 1) queue; current = Some moves.2; run = by.0 },
+      by.5 ∙ ap (with_run by.0) moves.4,
       omega arith,
-      record { queued = ap (λ (n : ℕ). min (n + 1) queue) (sym queued); current = refl },
+      record { queued = ap (λ (n : ℕ). min (n + 1) queue) (sym queued); current = refl; run = sym (ap first_run was) },
     )
 
 -- one request less
-one_less : (a : Parts) (q : ℕ) (c : Option ℕ) (next : List Row) → rows_of a ≡ row_of (q + 1) c → next ≡ row_of q c → (next ≡ rows_of (record { queued = a.queued - 1; current = a.current })) × (a.queued ≡ q + 1)
-one_less a q c next is after =
+one_less : (a : Parts) (q : ℕ) (c : Option ℕ) (run : Run) (next : List Row) → rows_of a ≡ row_with (q + 1) c run → next ≡ row_with q c run → (next ≡ rows_of (record a { queued = a.queued - 1 })) × (a.queued ≡ q + 1)
+one_less a q c run next is after =
     let queued : a.queued ≡ q + 1 = ap first_queued is in
-    let current : a.current ≡ c = ap first_current is in
     let less : q ≡ a.queued - 1 = omega (arith, queued) in
-    (after ∙ ap (λ (n : ℕ). row_of n c) less ∙ ap (λ (d : Option ℕ). row_of (a.queued - 1) d) (sym current), queued)
+    (after ∙ ap (λ (n : ℕ). row_with n c run) less ∙ ap (λ (d : Option ℕ). row_with (a.queued - 1) d run) (sym (ap first_current is)) ∙ ap (λ (r : Run). row_with (a.queued - 1) a.current r) (sym (ap first_run is)), queued)
 
-store_room : (queue : ℕ) (rows next : List Row) → MakesRoom queue rows next → RowsMove queue (RoomMoves queue) rows next
-store_room queue rows next (inl same) = λ a is within. (a, same ∙ is, within, inl refl)
-store_room queue rows next (inr room) = λ a is within.
-    let less = one_less a room.0 room.1 next (sym is ∙ room.3) room.4 in
-    (record { queued = a.queued - 1; current = a.current }, less.0, omega (arith, within), inr (omega (arith, less.1, room.2), (omega (arith, less.1), refl)))
+store_room : (queue : ℕ) (rows next : List Row) → ByRun (MakesRoom queue) rows next → RowsMove queue (RoomMoves queue) rows next
+store_room queue rows next by = λ a is within.
+    ⊎_elim
+    (λ same. (a, by.5 ∙ ap (with_run by.0) same ∙ sym by.4 ∙ is, within, inl refl))
+    (λ room.
+    let less = one_less a room.0 room.1 by.0 next (sym is ∙ by.4 ∙ ap (with_run by.0) room.3) (by.5 ∙ ap (with_run by.0) room.4) in
+    (record a { queued = a.queued - 1 }, less.0, omega (arith, within), inr (omega (arith, less.1, room.2), (omega (arith, less.1), refl))))
+    by.3
 
-store_steps : (queue : ℕ) (kind : StepKind) (turned : Turned) (rows next : List Row) → StepsBy kind turned rows next → RowsMove queue (ActorMoves kind turned) rows next
-store_steps queue Rotate Done rows next steps = λ a is within.
-    let current : a.current ≡ Some steps.1 = ap first_current (sym is ∙ steps.2) in
-    let queued : a.queued ≡ steps.0 = ap first_queued (sym is ∙ steps.2) in (
-      record { queued = a.queued; current = None },
-      steps.3 ∙ ap (λ (n : ℕ). row_of n None) (sym queued),
-      within,
-      (ap is_some current, refl),
+-- the requests that wait while a turn of a compaction is taken
+waiting_within : (queue threshold : ℕ) (files : Image) (queued : ℕ) (current : Option ℕ) (run : Run) (number done waiting : ℕ) → GoesOnWith threshold files queued current run number done waiting → queued ≤ queue → waiting ≤ queue
+waiting_within queue threshold files queued current None number done waiting goes within = omega (arith, goes.2)
+waiting_within queue threshold files queued current (Some run) number done waiting goes within = omega (arith, goes.2, within)
+
+-- and those that wait behind it
+left_within : (queue number records done waiting : ℕ) (current : Option ℕ) (left : ℕ) (now : Option ℕ) (next : Run) → TakesAction queue number records done waiting current left now next → waiting ≤ queue → left ≤ queue
+left_within queue number records done waiting current left now next action within = ⊎_elim
+    (λ looked. ⊎_elim (λ passed. omega (arith, passed.0, within)) (λ copied. omega (arith, copied.0)) looked.1)
+    (⊎_elim (λ stamped. omega (arith, stamped.1, within)) (λ taken. omega (arith, taken.1)))
+    action
+
+store_compacts : (pace : Pace) (files : Image) (turned : Turned) (rows next : List Row) → CompactsBy pace.queue pace.threshold files turned rows next → RowsMove pace.queue (CompactingMoves (λ image. image ≡ files) pace turned) rows next
+store_compacts pace files Done rows next turn = λ a is within.
+    let was : rows_of a ≡ row_with turn.queued turn.current turn.run = sym is ∙ turn.before in
+    let waiting = waiting_within pace.queue pace.threshold files turn.queued turn.current turn.run turn.number turn.done turn.waiting turn.goes_on (omega (arith, within, ap first_queued was)) in (
+      record { queued = turn.left; current = turn.now; run = turn.next },
+      turn.after,
+      left_within pace.queue turn.number _ turn.done turn.waiting turn.current turn.left turn.now turn.next turn.action waiting,
+      (
+        files,
+        refl,
+        record {
+          queued = turn.queued;
+          current = turn.current;
+          run = turn.run;
+          before = was;
+          number = turn.number;
+          done = turn.done;
+          waiting = turn.waiting;
+          goes_on = turn.goes_on;
+          left = turn.left;
+          now = turn.now;
+          next = turn.next;
+          after = refl;
+          action = turn.action;
+        },
+      ),
     )
-store_steps queue Rotate Idle rows next steps = λ a is within. (a, steps.2 ∙ is, within, (ap first_current (sym is ∙ steps.1), refl))
-store_steps queue Index Done rows next steps = λ a is within.
-    let less = one_less a steps.0 steps.1 next (sym is ∙ steps.2) steps.3 in
-    (record { queued = a.queued - 1; current = a.current }, less.0, omega (arith, within), (omega (arith, less.1), refl))
-store_steps queue Index Idle rows next steps = λ a is within. (a, steps.2 ∙ is, within, (ap first_queued (sym is ∙ steps.1), refl))
-store_steps queue Flush turned rows next steps = λ a is within. (a, steps.1 ∙ is, within, (steps.0, refl))
-store_steps queue Compact turned rows next steps = λ a is within. (a, steps.1 ∙ is, within, (steps.0, refl))
-store_steps queue Evict turned rows next steps = λ a is within. (a, steps.1 ∙ is, within, (steps.0, refl))
-store_steps queue Reap turned rows next steps = λ a is within. (a, steps.1 ∙ is, within, (steps.0, refl))
+store_compacts pace files Idle rows next none = λ a is within. (record { queued = 0; current = none.1; run = None }, none.4, omega arith, (files, refl, (none.0, none.1, sym is ∙ none.2, none.3, refl)))
+
+store_steps : (pace : Pace) (files : Image) (kind : StepKind) (turned : Turned) (rows next : List Row) → StepsIn pace.queue pace.threshold files kind turned rows next → RowsMove pace.queue (ActorMoves (λ image. image ≡ files) pace kind turned) rows next
+store_steps pace files Rotate Done rows next by = λ a is within.
+    let steps = by.3 in
+    let was : rows_of a ≡ row_with steps.0 (Some steps.1) by.0 = sym is ∙ by.4 ∙ ap (with_run by.0) steps.2 in (
+      record a { current = None },
+      by.5 ∙ ap (with_run by.0) steps.3 ∙ ap (λ (n : ℕ). row_with n None by.0) (sym (ap first_queued was)) ∙ ap (λ (r : Run). row_with a.queued None r) (sym (ap first_run was)),
+      within,
+      (ap is_some (ap first_current was), refl),
+    )
+store_steps pace files Rotate Idle rows next by = λ a is within.
+    let steps = by.3 in
+    (a, by.5 ∙ ap (with_run by.0) steps.2 ∙ sym by.4 ∙ is, within, (ap first_current (sym is ∙ by.4 ∙ ap (with_run by.0) steps.1), refl))
+store_steps pace files Index Done rows next by = λ a is within.
+    let steps = by.3 in
+    let less = one_less a steps.0 steps.1 by.0 next (sym is ∙ by.4 ∙ ap (with_run by.0) steps.2) (by.5 ∙ ap (with_run by.0) steps.3) in
+    (record a { queued = a.queued - 1 }, less.0, omega (arith, within), (omega (arith, less.1), refl))
+store_steps pace files Index Idle rows next by = λ a is within.
+    let steps = by.3 in
+    (a, by.5 ∙ ap (with_run by.0) steps.2 ∙ sym by.4 ∙ is, within, (ap first_queued (sym is ∙ by.4 ∙ ap (with_run by.0) steps.1), refl))
+store_steps pace files Compact turned rows next steps = store_compacts pace files turned rows next steps
+store_steps pace files Flush turned rows next by = left_by_run pace.queue turned rows next by
+store_steps pace files Evict turned rows next by = left_by_run pace.queue turned rows next by
+store_steps pace files Reap turned rows next by = left_by_run pace.queue turned rows next by
 
 store_counts : (queue : ℕ) (files : Image) (figures : ℕ × ℕ × ℕ) (rows next : List Row) → CountsBy files figures rows next → RowsMove queue (λ a b. CountsBy files figures (rows_of a) (rows_of b)) rows next
 store_counts queue files figures rows next counts = λ a is within.
-    let row = sym is ∙ counts.3 in
-    let current : a.current ≡ counts.1 = ap first_current row in
-    let run : None ≡ counts.2 = ap first_run row in
-    let after : next ≡ rows_of (record { queued = 0; current = a.current }) = counts.5 ∙ ap (λ (r : Run). row_with 0 counts.1 r) (sym run) ∙ ap (λ (c : Option ℕ). row_with 0 c None) (sym current) in (
-      record { queued = 0; current = a.current },
-      after,
-      omega arith,
-      (counts.0, counts.1, counts.2, row, counts.4, sym after ∙ counts.5),
-    )
+    (record { queued = 0; current = counts.1; run = counts.2 }, counts.5, omega arith, (counts.0, counts.1, counts.2, sym is ∙ counts.3, counts.4, refl))
 
 -- a store that was opened follows the rules of its settings
-pub started_follows : (files : Image) (settings : Settings) (facts : StoreFacts) (state : StoreState) (mark : ℕ) → IsStarted files settings facts state mark → FollowsParts (queue_of settings) facts state
+pub started_follows : (files : Image) (settings : Settings) (facts : StoreFacts) (state : StoreState) (mark : ℕ) → IsStarted files settings facts state mark → FollowsParts (pace_of settings) facts
 started_follows files settings facts state mark started = record {
   moves = λ change rows next moves. store_moves settings.queue rows next (started.moves change rows next moves);
   empties = λ rows next same. rows_stay settings.queue rows next (started.empties rows next same);
   room = λ rows next room. store_room settings.queue rows next (started.room rows next room);
   counts = λ files figures rows next counts. store_counts settings.queue files figures rows next (started.counts files figures rows next counts);
-  steps = λ kind turned rows next steps. store_steps settings.queue kind turned rows next (started.steps kind turned rows next steps);
+  steps = λ files kind turned rows next steps. store_steps (pace_of settings) files kind turned rows next (started.steps files kind turned rows next steps);
 }
 
 -- how it begins
@@ -532,14 +576,3 @@ opened_by settings from mid facts state mark read started settled = record { rea
 -- the store's own ranges are among those of all settings
 pub store_in_range : (settings : Settings) → AreInRange settings → IsInRangeOfStore settings
 store_in_range settings range = record { file_size = range.file_size.1; bits = range.hash_bits; queue = range.queue }
-
-module _ {F : Type 0} (g : Shared F (Bor (List ℕ) × Unit {0}) Bool) where
-  -- no call changes by what rules it does
-  pub follows_on : (queue : ℕ) (store next : SoftIndex F) (host later : HostState) → SameStore (index_facts g store) (index_facts g next) → FollowsParts queue (index_facts g store) (index_means store host) → FollowsParts queue (index_facts g next) (index_means next later)
-  follows_on queue store next host later same follows = record {
-    moves = λ change rows after moves. follows.moves change rows after ((same.moves change rows after).0 moves);
-    empties = λ rows after empties. follows.empties rows after ((same.empties rows after).0 empties);
-    room = λ rows after room. follows.room rows after ((same.room rows after).0 room);
-    counts = λ files figures rows after counts. follows.counts files figures rows after ((same.counts files figures rows after).0 counts);
-    steps = follows.steps;
-  }

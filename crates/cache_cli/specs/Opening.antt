@@ -31,7 +31,7 @@ pub record Begins (course : Course) (ordered : Bool) (now : View) : Type 0 where
   pub numbers : now.facts.numbers ≡ Some first
   pub drawn : now.facts.drawn ≤ first.sequence
   pub made : now.facts.made ≤ first.file
-  pub follows : FollowsParts course.pace.queue now.facts now.store
+  pub follows : FollowsParts course.pace now.facts
   pub parts : now.facts.parts ≡ rows_of no_parts
   pub firm : now.facts.firm ≡ course.synced
   pub is_ordered : now.facts.ordered ≡ ordered

@@ -10,13 +10,7 @@ use Rattle.cache_model.specs.Replies.{Response}
 use Rattle.cache_model.specs.Transcript.{after_answer, ends_talk}
 use Rattle.store_trait.specs.Meaning.{Row}
 use Rattle.cache_session.specs.Turns.{files_of}
-use Rattle.cache_cli.specs.Parts.{Parts, rows_of, no_parts, ActorMoves, AnswerMoves}
-
--- How a store works beside its answers: how many requests its queue takes, and how many background steps follow each
--- answer.
-pub record Pace : Type 0 where
-  pub queue : ℕ
-  pub pump : ℕ
+use Rattle.cache_cli.specs.Parts.{Pace, Parts, rows_of, no_parts, ActorMoves, AnswerMoves}
 
 -- the step that comes behind another, in the repeated order Index, Flush, Compact, Reap
 abbrev pub step_behind : StepKind → StepKind
@@ -30,10 +24,10 @@ abbrev pub background_step : ℕ → StepKind
 background_step zero = Index
 background_step (suc number) = step_behind (background_step number)
 
--- how so many background steps move the parts, from the one with this number on
-abbrev pub StepsMove : ℕ → ℕ → Parts → Parts → Type 0
-StepsMove first zero a b = b ≡ a
-StepsMove first (suc count) a b = (c : Parts) × (turned : Turned) × StepsMove first count a c × ActorMoves (background_step (first + count)) turned c b
+-- how so many background steps move the parts, from the one with this number on, where these files read so
+abbrev pub StepsMove : (Image → Type 0) → Pace → ℕ → ℕ → Parts → Parts → Type 0
+StepsMove read pace first zero a b = b ≡ a
+StepsMove read pace first (suc count) a b = (c : Parts) × (turned : Turned) × StepsMove read pace first count a c × ActorMoves read pace (background_step (first + count)) turned c b
 
 -- how many files the first so many background steps make at the most
 abbrev pub files_by_steps : ℕ → ℕ
@@ -52,11 +46,11 @@ steps_asked pump responses = sum_by (steps_behind pump) responses
 -- taken before, and so many are due: these are taken before the next line, and behind it those that follow its answer are
 -- due. In the end so many were taken in all; of those that are due then, some first ones.
 abbrev pub PartsThrough : (Image → Type 0) → Pace → ℕ → ℕ → Plain → List (List ℕ) → List Response → Parts → ℕ → Parts → Type 0
-PartsThrough read pace taken due plain [] [] a all b = (count : ℕ) × (count ≤ due) × (all ≡ taken + count) × StepsMove taken count a b
+PartsThrough read pace taken due plain [] [] a all b = (count : ℕ) × (count ≤ due) × (all ≡ taken + count) × StepsMove read pace taken count a b
 PartsThrough read pace taken due plain [] (response ∷ responses) a all b = ⊥
 PartsThrough read pace taken due plain (line ∷ lines) [] a all b = ⊥
 PartsThrough read pace taken due plain (line ∷ lines) (response ∷ responses) a all b =
-    (c : Parts) × (d : Parts) × StepsMove taken due a c × AnswerMoves read pace.queue plain (meaning_of line) response c d
+    (c : Parts) × (d : Parts) × StepsMove read pace taken due a c × AnswerMoves read pace plain (meaning_of line) response c d
     × PartsThrough read pace (taken + due) (steps_behind pace.pump response) (after_answer plain (meaning_of line) response) lines responses d all b
 
 -- The rows of a store are those of parts that these answers and so many background steps came to from the opening on,

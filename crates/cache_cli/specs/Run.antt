@@ -80,7 +80,7 @@ pub record IsTelling (from : HostState) (course : Course) (ordered : Bool) (left
   pub opening : IsOpening talk.opening base
   pub standing : Standing talk.opening (done_in talk) course.synced ordered now.facts base now.store now.host.turn
   pub moment : (plain_of talk).moment ≡ now.moment
-  pub follows : FollowsParts course.pace.queue now.facts now.store
+  pub follows : FollowsParts course.pace now.facts
   pub parts : HasMoved (HasRead course now.host) course.pace talk.opening talk.answered talk.responses taken now.facts.parts
   pub numbers : IsNumbered (length standing.log) (Some talk.first) now.facts.numbers
   pub drawn : now.facts.drawn ≤ talk.first.sequence + length standing.log
@@ -157,7 +157,7 @@ TellsMore from course ordered talk commands now =
 abbrev pub DoesBy : Option Reply → HostState → Course → Bool → List (List ℕ) → Talk → Command → View → View → Type 0
 DoesBy (Some reply) from course ordered left talk command old now =
     IsReply command (plain_reply [] (plain_of talk) command) (replies reply) × TellsMore from course ordered talk (command ∷ []) now
-    × RowsMove course.pace.queue (CommandMoves (HasRead course now.host) course.pace.queue (plain_of talk) command reply) old.facts.parts now.facts.parts
+    × RowsMove course.pace.queue (CommandMoves (HasRead course now.host) course.pace (plain_of talk) command reply) old.facts.parts now.facts.parts
 DoesBy None from course ordered left talk command old now =
     IsTrue (may_be_refused command) × TellsMore from course ordered talk [] now × RowsMove course.pace.queue (RoomMoves course.pace.queue) old.facts.parts now.facts.parts
 

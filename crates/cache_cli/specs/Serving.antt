@@ -13,12 +13,13 @@ use Rattle.soft_index.specs.Index.{IsRead, IsStarted}
 use Rattle.soft_index.specs.Store.{owns_file}
 use Rattle.cache_script.specs.Damages.{damage_line}
 use Rattle.cache_cli.specs.Ends.{Ends}
+use Rattle.cache_cli.specs.Parts.{Pace}
 use Rattle.cache_cli.specs.Run.{IsLost}
 use Rattle.cache_cli.specs.Talk.{Course, HoldsThroughout, HoldsTogether}
 
--- how many requests the store's queue takes
-abbrev pub queue_of : Settings → ℕ
-queue_of settings = settings.queue
+-- how the store works by these settings
+abbrev pub pace_of : Settings → Pace
+pace_of settings = record { queue = settings.queue; threshold = settings.compact_below; pump = settings.pump }
 
 -- a run by these settings that begins on a host, from a moment on, with these lines
 abbrev pub course_by : Settings → HostState → ℕ → List (List ℕ) → Course
@@ -29,7 +30,7 @@ course_by settings from given lines = record {
   given = given;
   lines = lines;
   synced = settings.sync_writes;
-  pace = record { queue = queue_of settings; pump = settings.pump };
+  pace = pace_of settings;
 }
 
 -- where no image that might be left at the beginning is damaged, each image since holds

@@ -79,10 +79,9 @@ pub record GivesEach (standard : Settings) (table : Members) (settings : Setting
   pub publish : Gives table (codes "publish") (string_up_to 1024) standard.publish settings.publish
   pub activation : Gives table (codes "activation") (one_of activations) standard.activation settings.activation
 
--- What isn't built yet is at its standard setting. All other settings are in force: file_size, queue, hash_bits,
--- sync_writes and pump.
+-- What isn't built yet is at its standard setting. All other settings are in force: file_size, compact_below, queue,
+-- hash_bits, sync_writes and pump.
 pub record AreInForce (standard settings : Settings) : Type 0 where
-  pub compact_below : settings.compact_below ≡ standard.compact_below
   pub nodes : settings.nodes ≡ standard.nodes
   pub mode : settings.mode ≡ standard.mode
   pub behind_limit : settings.behind_limit ≡ standard.behind_limit

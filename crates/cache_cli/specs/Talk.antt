@@ -17,8 +17,8 @@ use Rattle.cache_disk.specs.Calls.{and_then_said}
 use Rattle.store_trait.specs.Meaning.{Numbers}
 use Rattle.cache_session.specs.Changing.{of_key}
 use Rattle.cache_cli.specs.Fitting.{promised_of, IsLog}
-use Rattle.cache_cli.specs.Parts.{Parts, no_parts}
-use Rattle.cache_cli.specs.Pump.{Pace, steps_asked, PartsThrough}
+use Rattle.cache_cli.specs.Parts.{Pace, Parts, no_parts}
+use Rattle.cache_cli.specs.Pump.{steps_asked, PartsThrough}
 
 -- What a run is about: the turn at which it began, the files as they read and what was said by then, the moment that was
 -- given, the lines of the script, whether each change is synced before it is answered, and how the store works beside its

@@ -3,7 +3,6 @@ ghost use Rattle.std.specs.Prelude.{◌≡◌, ◌+◌, ◌≤◌, ℕ, Bool, Li
 ghost use Rattle.cache_model.specs.declared.commands.StepKind.TheVariants.{Index};
 ghost use Rattle.cache_session.specs.Turns.{store_of, moment_of, is_broken, IsFit};
 ghost use Rattle.cache_cli.specs.Causes.{HasHostCause};
-ghost use Rattle.cache_cli.specs.Parts.{FollowsOn};
 ghost use Rattle.cache_cli.specs.Pump.{step_behind, background_step};
 ghost use Rattle.cache_cli.specs.Talk.{Course, Talk, asked_in};
 ghost use Rattle.cache_cli.specs.Run.{view_by, IsPumping, Pumped};
@@ -57,7 +56,6 @@ fn take_step<H: Host, S: FileStore<H>>(
     pump: &mut Pump,
     host: &mut H,
 ) -> Result<(), Status>
-    requires follows { FollowsOn S.facts S.means H.state }
     requires fit { IsFit (S.facts (store_of session.old)) (is_broken session.old) (moment_of session.old) }
     requires stands { IsTrue H.tells → (S.means (store_of session.old) (H.state host.old)).stands }
     ensures count { pump.new.count ≡ pump.old.count }
@@ -85,7 +83,6 @@ pub fn take_steps<H: Host, S: FileStore<H>>(
     pump: &mut Pump,
     host: &mut H,
 ) -> Result<(), Status>
-    requires follows { FollowsOn S.facts S.means H.state }
     requires fit { IsFit (S.facts (store_of session.old)) (is_broken session.old) (moment_of session.old) }
     requires stands { IsTrue H.tells → (S.means (store_of session.old) (H.state host.old)).stands }
     ensures fit { OnOk result (IsFit (S.facts (store_of session.new)) (is_broken session.new) (moment_of session.new)) }

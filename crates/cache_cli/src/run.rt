@@ -8,7 +8,6 @@ ghost use Rattle.cache_script.specs.LineReader.{units_taken};
 ghost use Rattle.cache_session.specs.Turns.{store_of, moment_of, is_broken, IsBuilt, IsFit};
 ghost use Rattle.cache_cli.specs.Causes.{HasHostCause, HasCause};
 ghost use Rattle.cache_cli.specs.Talk.{Course, Talk, next_command, asked_in};
-ghost use Rattle.cache_cli.specs.Parts.{FollowsOn};
 ghost use Rattle.cache_cli.specs.Saying.{is_memory};
 ghost use Rattle.cache_cli.specs.Run.{view_by, IsTalking, Does, Answered, LongAnswered, Closed};
 ghost use Rattle.cache_cli.specs.Steps.{IsTalkingOn, AnsweredNext, IsPaced, Stepped, Ran};
@@ -60,7 +59,6 @@ fn do_command<H: Host, S: FileStore<H>>(
     host: &mut H,
     command: Command,
 ) -> Result<Option<Reply>, Status>
-    requires follows { FollowsOn S.facts S.means H.state }
     requires fit { IsFit (S.facts (store_of session.old)) (is_broken session.old) (moment_of session.old) }
     requires stands { IsTrue H.tells → (S.means (store_of session.old) (H.state host.old)).stands }
     requires command { IsCommand command }
@@ -93,7 +91,6 @@ fn answer<H: Host, S: FileStore<H>>(
     host: &mut H,
     command: Command,
 ) -> Result<bool, Status>
-    requires follows { FollowsOn S.facts S.means H.state }
     requires fit { IsFit (S.facts (store_of session.old)) (is_broken session.old) (moment_of session.old) }
     requires stands { IsTrue H.tells → (S.means (store_of session.old) (H.state host.old)).stands }
     requires command { IsCommand command }
@@ -125,7 +122,6 @@ fn answer_end<H: Host, S: FileStore<H>>(
     session: &mut Session<S>,
     host: &mut H,
 ) -> Result<(), Status>
-    requires follows { FollowsOn S.facts S.means H.state }
     requires fit { IsFit (S.facts (store_of session.old)) (is_broken session.old) (moment_of session.old) }
     requires stands { IsTrue H.tells → (S.means (store_of session.old) (H.state host.old)).stands }
     ensures ended { IsTrue H.tells → (from : H) (course : Course) (ordered : Bool) (talk : Talk)
@@ -147,7 +143,6 @@ fn answer_line<H: Host, S: FileStore<H>>(
     host: &mut H,
     line: &[u8],
 ) -> Result<bool, Status>
-    requires follows { FollowsOn S.facts S.means H.state }
     requires fit { IsFit (S.facts (store_of session.old)) (is_broken session.old) (moment_of session.old) }
     requires stands { IsTrue H.tells → (S.means (store_of session.old) (H.state host.old)).stands }
     ensures fit { OnOk result (IsFit (S.facts (store_of session.new)) (is_broken session.new) (moment_of session.new)) }
@@ -187,7 +182,6 @@ fn answer_next<H: Host, I: Source, S: FileStore<H>>(
     host: &mut H,
     script: &mut I,
 ) -> Result<bool, Status>
-    requires follows { FollowsOn S.facts S.means H.state }
     requires fit { IsFit (S.facts (store_of session.old)) (is_broken session.old) (moment_of session.old) }
     requires stands { IsTrue H.tells → (S.means (store_of session.old) (H.state host.old)).stands }
     ensures fit { IfOk result (λ more. more ≡ true → IsFit (S.facts (store_of session.new)) (is_broken session.new) (moment_of session.new)) }
@@ -223,7 +217,6 @@ fn step_on<H: Host, I: Source, S: FileStore<H>>(
     host: &mut H,
     script: &mut I,
 ) -> Result<bool, Status>
-    requires follows { FollowsOn S.facts S.means H.state }
     requires fit { IsFit (S.facts (store_of session.old)) (is_broken session.old) (moment_of session.old) }
     requires stands { IsTrue H.tells → (S.means (store_of session.old) (H.state host.old)).stands }
     ensures fit { IfOk result (λ more. more ≡ true → IsFit (S.facts (store_of session.new)) (is_broken session.new) (moment_of session.new)) }
@@ -255,7 +248,6 @@ pub fn answer_script<H: Host, I: Source, S: FileStore<H>>(
     host: &mut H,
     script: &mut I,
 ) -> Result<(), Status>
-    requires follows { FollowsOn S.facts S.means H.state }
     requires fit { IsFit (S.facts (store_of session.old)) (is_broken session.old) (moment_of session.old) }
     requires stands { IsTrue H.tells → (S.means (store_of session.old) (H.state host.old)).stands }
     ensures ran { IsTrue H.tells → IsTrue I.tells → (from : H) (course : Course) (ordered : Bool) (talk : Talk)

@@ -14,7 +14,6 @@ ghost use Rattle.cache_cli.specs.Causes.{CauseOf, WholeCauseOf, HostCauseOf, Has
 ghost use Rattle.cache_cli.specs.Foreign.{IsForeign};
 ghost use Rattle.cache_cli.specs.DirectorySettings.{HasSettings, EndsBySettings};
 ghost use Rattle.cache_cli.specs.Talk.{Course};
-ghost use Rattle.cache_cli.specs.Parts.{FollowsOn};
 ghost use Rattle.cache_cli.specs.Run.{view, view_by};
 ghost use Rattle.cache_cli.specs.Opening.{Begins, Finished};
 ghost use Rattle.cache_cli.specs.Ends.{IsUnused, EndsForeign, EndsRefused};
@@ -75,8 +74,8 @@ pub fn serve<H: Host, I: Source>(
     }
 }
 
-/// The same by settings that are handed in, whatever the settings file says: `file_size`, `sync_writes`, `hash_bits`,
-/// `queue` and `pump` are in force. It never ends with the status Settings.
+/// The same by settings that are handed in, whatever the settings file says: `file_size`, `compact_below`, `sync_writes`,
+/// `hash_bits`, `queue` and `pump` are in force. It never ends with the status Settings.
 ///
 /// Where changes aren't synced at once, only `sync` and `stop` promise them: a crash may leave a key as after any prefix
 /// of its changes from the last such answer on.
@@ -190,7 +189,6 @@ fn run_store<H: Host, I: Source, S: FileStore<H>>(
     host: &mut H,
     script: &mut I,
 ) -> Ran<S>
-    requires follows { FollowsOn S.facts S.means H.state }
     requires ready { IsReady (S.facts store) moment }
     requires stands { IsTrue H.tells → (S.means store (H.state host.old)).stands }
     ensures finished { IsTrue H.tells → IsTrue I.tells → (course : Course) (ordered : Bool)
@@ -212,7 +210,6 @@ fn answer_from_opening<H: Host, I: Source, S: FileStore<H>>(
     host: &mut H,
     script: &mut I,
 ) -> Result<(), Status>
-    requires follows { FollowsOn S.facts S.means H.state }
     requires fit { IsFit (S.facts (store_of session.old)) (is_broken session.old) (moment_of session.old) }
     requires stands { IsTrue H.tells → (S.means (store_of session.old) (H.state host.old)).stands }
     ensures finished { IsTrue H.tells → IsTrue I.tells → (course : Course) (ordered : Bool)

@@ -221,8 +221,7 @@ fn settings_of(table: &Table, standard: &Settings, publish: Prefix) -> Option<Se
 fn are_in_force(standard: &Settings, settings: &Settings) -> bool
     ensures { result ≡ true ↔ AreInForce standard.now settings.now }
 {
-    settings.compact_below == standard.compact_below
-        && settings.nodes == standard.nodes
+    settings.nodes == standard.nodes
         && settings.mode == standard.mode
         && settings.behind_limit == standard.behind_limit
         && settings.max_entries == standard.max_entries

@@ -1,5 +1,5 @@
 -- A count of the files.
-use Rattle.std.proofs.Common.{◌≡◌, ℕ, true, List, [], refl, sym, ◌∙◌, arith}
+use Rattle.std.proofs.Common.{◌≡◌, ℕ, true, List, refl, sym, ◌∙◌, arith}
 use Rattle.std.specs.Prelude.{Ok, Err}
 use Rattle.cache_model.specs.declared.commands.Command.TheVariants.{Stats}
 use Rattle.cache_model.specs.declared.faults.StoreFault.{StoreFault}

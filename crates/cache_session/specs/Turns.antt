@@ -169,22 +169,22 @@ gives_up step.Evict = true
 gives_up step.Reap = true
 gives_up kind = false
 
--- what a step does to the parts of a store: nothing is held in memory that could be given up
-abbrev pub StepMoves : StepKind → StoreState → Turned → List Row → List Row → Type 0
-StepMoves step.Evict old turned a b = (turned ≡ Idle) × (b ≡ a)
-StepMoves step.Reap old turned a b = (turned ≡ Idle) × (b ≡ a)
-StepMoves kind old turned a b = old.steps kind turned a b
+-- what a step does to the parts of a store, where the files read so: nothing is held in memory that could be given up
+abbrev pub StepMoves : StepKind → StoreFacts → Image → Turned → List Row → List Row → Type 0
+StepMoves step.Evict f files turned a b = (turned ≡ Idle) × (b ≡ a)
+StepMoves step.Reap f files turned a b = (turned ≡ Idle) × (b ≡ a)
+StepMoves kind f files turned a b = f.steps files kind turned a b
 
 -- the figures of a count of the files, where no change waits to be written and nothing is held in memory
 abbrev pub figures_of : ℕ × ℕ × ℕ → Figures
 figures_of count = record { files = count.0; bytes = count.1; live = count.2; pending = 0; held = 0 }
 
--- What the store itself answers: a step is answered with what it did, and `stats` with the figures of the files as they
--- read. The parts were moved so.
-abbrev pub IsStoreReply : Command → StoreFacts → StoreState → Image → List Row → List Row → Reply → Type 0
-IsStoreReply (Step kind) f old files a b answer = (turned : Turned) × (answer ≡ reply.Turned turned) × StepMoves kind old turned a b
-IsStoreReply Stats f old files a b answer = (count : ℕ × ℕ × ℕ) × (answer ≡ reply.Stats (figures_of count)) × f.counts files count a b
-IsStoreReply command f old files a b answer = Unit {0}
+-- What the store itself answers, where the files read so: a step is answered with what it did, and `stats` with the
+-- figures of the files. The parts were moved so.
+abbrev pub IsStoreReply : Command → StoreFacts → Image → List Row → List Row → Reply → Type 0
+IsStoreReply (Step kind) f files a b answer = (turned : Turned) × (answer ≡ reply.Turned turned) × StepMoves kind f files turned a b
+IsStoreReply Stats f files a b answer = (count : ℕ × ℕ × ℕ) × (answer ≡ reply.Stats (figures_of count)) × f.counts files count a b
+IsStoreReply command f files a b answer = Unit {0}
 
 -- how a command goes about
 abbrev pub way_of : Command → Way
@@ -212,7 +212,7 @@ pub record Turns (publish : List ℕ) (plain : Plain) (command : Command) (f g :
   pub did : Did (way_of command) f g spoilt old new before after plain.moment changes result
   pub shows : OnOk result (Shows (plain_after plain command) new.content)
   pub reply : IfOk result (λ reply. IsReplyOf (plain_reply publish plain command) reply)
-  pub store : IfOk result (λ reply. IsStoreReply command f old before.files f.parts g.parts reply)
+  pub store : IfOk result (λ reply. IsStoreReply command f before.files f.parts g.parts reply)
   pub promised : (key : List ℕ) → promises f.firm plain command key ≡ true → OnOk result (IsOnly g new after.turn key)
   pub idle : is_idle command ≡ true → after.turn ≡ before.turn
 

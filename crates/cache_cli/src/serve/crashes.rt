@@ -1,10 +1,14 @@
 // Crashes at each turn of a run. A change that was answered outlasts them, and of the one that wasn't there is all or
-// nothing, but of a `clear` there are any of its removals: the files read as the plain map does.
+// nothing, but of a `clear` there are any of its removals: the files read as the plain map does. A step makes no
+// difference to what is read.
 ghost use Rattle.std.specs.Prelude.{IsTrue};
 ghost use Rattle.host_memory.specs.Files.{are_named_apart};
 
 use super::plain_reader::Records;
-use super::tests::{FIRST, NamedBytes, ONE_PUT, directory_of, serve_script};
+use super::tests::{
+    FIRST, NamedBytes, ONE_PUT, SECOND, THIRD, directory_of, name_of, serve_script,
+};
+use super::with_settings::{serve_lines, settings_of};
 use cache_model::{PlainCache, Prefix, Status};
 use cache_script::{opened_line, read_line, write_reply};
 use host_memory::{DiskFile, MemoryHost, MemorySource};
@@ -27,21 +31,29 @@ const READS: [&str; 9] = [
     "keys", "get a", "get b", "get c", "at 1011", "keys", "get a", "get b", "get c",
 ];
 
-// A line that changes something, and the moment at which it's done.
+// A line that changes something or asks for a step, and the moment at which it's done.
 type Change = (u64, &'static str);
 
-// A script of changes over a directory with one file at most, which holds the stored ones.
+// What the lines begin with that the plain map doesn't answer.
+const STEP: &str = "step ";
+
+// A script of changes over a directory with one file at most, which holds the stored ones: how many steps follow an
+// answer, and the files that stand at the end.
 #[derive(Clone, Copy, Debug)]
 struct Scenario {
     file: Option<NamedBytes>,
     stored: &'static [Change],
     changes: &'static [Change],
+    pump: u8,
+    left: &'static [&'static str],
 }
 
 const ONE_MORE: Scenario = Scenario {
     file: Some((FIRST, ONE_PUT)),
     stored: &[(1000, "put a b")],
     changes: &[(1005, "put a c ttl 5")],
+    pump: 1,
+    left: &[FIRST, SECOND],
 };
 
 const MANY: Scenario = Scenario {
@@ -61,6 +73,88 @@ const MANY: Scenario = Scenario {
         (1004, "put a 9 ttl 7"),
         (1004, "removeif b 7"),
     ],
+    pump: 1,
+    left: &[FIRST],
+};
+
+// The compaction of a file passes over two records and copies two, and one of their keys is put before it ends.
+const COMPACTED: Scenario = Scenario {
+    file: None,
+    stored: &[],
+    changes: &[
+        (1000, "put a x"),
+        (1000, "put a x"),
+        (1000, "put a x"),
+        (1000, "put b v1"),
+        (1000, "step rotate"),
+        (1000, "step index"),
+        (1000, "step index"),
+        (1000, "step index"),
+        (1000, "step index"),
+        (1000, "step compact"),
+        (1000, "step compact"),
+        (1000, "step compact"),
+        (1000, "step compact"),
+        (1000, "put b v2"),
+        (1000, "step index"),
+        (1000, "step index"),
+        (1000, "step index"),
+        (1000, "step index"),
+        (1000, "step compact"),
+        (1000, "step compact"),
+        (1000, "step compact"),
+    ],
+    pump: 0,
+    left: &[SECOND],
+};
+
+// The file has records that later ones of their keys follow, a put that expired, a removal and a put that is visible.
+const EVERY_FATE: Scenario = Scenario {
+    file: None,
+    stored: &[],
+    changes: &[
+        (1000, "put a 1"),
+        (1000, "put b 2 ttl 3"),
+        (1000, "put c 3"),
+        (1003, "remove c"),
+        (1003, "put a 4"),
+        (1003, "step rotate"),
+        (1003, "step compact"),
+        (1003, "step compact"),
+        (1003, "step compact"),
+        (1003, "step compact"),
+        (1003, "step compact"),
+        (1003, "step compact"),
+        (1003, "step compact"),
+    ],
+    pump: 0,
+    left: &[SECOND],
+};
+
+// A file is compacted, and then the one that its records were copied to.
+const TWICE: Scenario = Scenario {
+    file: None,
+    stored: &[],
+    changes: &[
+        (1000, "put a 1"),
+        (1000, "put a 2 ttl 9"),
+        (1000, "put b 3"),
+        (1000, "step rotate"),
+        (1000, "step compact"),
+        (1000, "step compact"),
+        (1000, "step compact"),
+        (1000, "step compact"),
+        (1000, "step compact"),
+        (1000, "step rotate"),
+        (1002, "put b 4"),
+        (1002, "put c 5 ttl 2"),
+        (1002, "step compact"),
+        (1002, "step compact"),
+        (1002, "step compact"),
+        (1002, "step compact"),
+    ],
+    pump: 0,
+    left: &[THIRD],
 };
 
 // The plain map with what is said of the lines on it.
@@ -109,6 +203,9 @@ impl PlainRun {
     fn change(&mut self, rt: &impl Abort, alloc: Global, change: Change) -> Result<(), Fail> {
         let (moment, line) = change;
         self.answer(rt, alloc, format!(in alloc; "at {moment}")?.as_str())?;
+        if line.starts_with(STEP) {
+            return Ok(());
+        }
         self.answer(rt, alloc, line)
     }
 
@@ -183,8 +280,8 @@ impl Scenario {
         let files = directory_of(rt, alloc, self.file)?;
         let mut host = MemoryHost::new(alloc, files, Vec::new(alloc), Vec::new(alloc), 0)?;
         let lines = self.lines(alloc, count)?;
-        let script = MemorySource::new(alloc, lines.into_bytes(), Vec::new(alloc))?;
-        let status = serve_script(alloc, &WORDS, &mut host, script)?;
+        let settings = settings_of(alloc, 0, true, u64::from(self.pump))?;
+        let status = serve_lines(alloc, &settings, &mut host, lines.into_bytes())?;
         assert_eq!(rt; status, Status::Done, "the run of {count} changes");
         Ok(host)
     }
@@ -256,6 +353,17 @@ impl Scenario {
         Ok(readings)
     }
 
+    // Just these files stand after the run.
+    fn has_left(&self, rt: &impl Abort, alloc: Global, host: &MemoryHost) -> Result<(), Fail> {
+        let last = host.image_at(host.turns(), 1)?;
+        assert_eq!(rt; last.len(), self.left.len(), "{self:?}");
+        for text in self.left {
+            let name = name_of(rt, alloc, text)?;
+            assert!(rt; host.file(name).is_some(), "{text}");
+        }
+        Ok(())
+    }
+
     // The run, and what its changes come to.
     fn course(&self, rt: &impl Abort, alloc: Global) -> Result<Course, Fail> {
         let mut answered = Vec::new(alloc);
@@ -316,13 +424,29 @@ impl Course {
     }
 }
 
-#[test]
-fn a_crash_leaves_what_was_answered(rt: HostRuntime) -> Result<(), Fail> {
-    for scenario in [ONE_MORE, MANY] {
-        let course = scenario.course(&rt, rt.alloc())?;
+// Crashes at each turn of the runs.
+fn are_read_after(rt: &impl Abort, alloc: Global, scenarios: &[Scenario]) -> Result<(), Fail> {
+    for scenario in scenarios {
+        let course = scenario.course(rt, alloc)?;
+        scenario.has_left(rt, alloc, &course.host)?;
         for turn in 0..=course.host.turns() {
-            course.reads_after(&rt, rt.alloc(), turn)?;
+            course.reads_after(rt, alloc, turn)?;
         }
     }
     Ok(())
+}
+
+#[test]
+fn a_crash_leaves_what_was_answered(rt: HostRuntime) -> Result<(), Fail> {
+    are_read_after(&rt, rt.alloc(), &[ONE_MORE, MANY])
+}
+
+#[test]
+fn a_crash_while_a_file_is_compacted_changes_no_answer(rt: HostRuntime) -> Result<(), Fail> {
+    are_read_after(&rt, rt.alloc(), &[COMPACTED, EVERY_FATE])
+}
+
+#[test]
+fn a_crash_amid_two_compactions_changes_no_answer(rt: HostRuntime) -> Result<(), Fail> {
+    are_read_after(&rt, rt.alloc(), &[TWICE])
 }

@@ -201,9 +201,10 @@ fn a_crash_leaves_one_cut(rt: HostRuntime) -> Result<(), Fail> {
     for turn in 0..=course.host.turns() {
         course.reads_after(&rt, alloc, turn)?;
     }
-    // Files were closed by their size and by steps, and the last two lines stand behind a closed gate.
+    // Of four files, which were closed by their size and by steps, two were compacted, and the last two lines stand behind
+    // a closed gate.
     let image = course.host.image_at(course.host.turns(), 1)?;
-    assert_eq!(&rt; image.len(), 4);
+    assert_eq!(&rt; image.len(), 2);
     let said = said_of_run(&rt, alloc, image)?;
     let is_whole = course
         .cuts

@@ -26,7 +26,7 @@ const CLOSED_PUT: &[u8] = &[
 ];
 
 // The file of one put, and behind it a put of `A` under `a` with the number 2.
-const TWO_PUTS: &[u8] = &[
+pub(super) const TWO_PUTS: &[u8] = &[
     1, 1, 1, 0, 0, 0, 0, 0, 0, 0, 1, 255, 255, 255, 255, 255, 255, 255, 255, 0, 1, 0, 0, 0, 1, 97,
     98, 0, 0, 0, 0, 0, 0, 0, 3, 232, 1, 1, 0, 0, 0, 0, 0, 0, 0, 2, 255, 255, 255, 255, 255, 255,
     255, 255, 0, 1, 0, 0, 0, 1, 97, 65, 0, 0, 0, 0, 0, 0, 0, 3, 232, 0,
@@ -80,6 +80,8 @@ struct Outcome {
 pub(super) const FIRST: &str = "s0-0000000001.log";
 
 pub(super) const SECOND: &str = "s0-0000000002.log";
+
+pub(super) const THIRD: &str = "s0-0000000003.log";
 
 const LAST: &str = "s0-4294967294.log";
 
@@ -674,9 +676,10 @@ fn pieces_make_no_difference(rt: HostRuntime) -> Result<(), Fail> {
 
 // How many calls of the disk the script makes: the size of a settings file, the names twice, a sync of the data file and of
 // the names, its size and its bytes; for the first put the file, its gate, a sync of both kinds, the version, the record,
-// the end, a sync, the gate and a sync; for the second put the record, the end, a sync, the gate and a sync; and for each
-// of three reads the record.
-const DISK_CALLS: u64 = 7 + 10 + 5 + 3;
+// the end, a sync, the gate and a sync; for the second put the record, the end, a sync, the gate and a sync; for each of
+// three reads the record; and for the step of the index behind the second read the record of `a` that had an entry, as a
+// turn of a compaction had taken the first put into the index.
+const DISK_CALLS: u64 = 7 + 10 + 5 + 3 + 1;
 
 #[test]
 fn each_call_of_the_disk_fails_in_turn(rt: HostRuntime) -> Result<(), Fail> {

@@ -1,10 +1,11 @@
 // Runs by settings that are handed in: where files end, what is written and not yet sealed, what a step does, what a count
-// of the files gives, and that the steps behind the answers make no difference.
+// of the files gives, which files compactions leave, and that the steps behind the answers make no difference where no
+// file is compacted.
 ghost use Rattle.std.specs.Prelude.{◌≤◌, IfOk};
 ghost use Rattle.cache_model.specs.Settings.{AreInRange};
 
 use super::tests::{
-    FIRST, NamedBytes, ONE_PUT, Part, SECOND, directory_of, name_of, script_of, words_of,
+    FIRST, NamedBytes, ONE_PUT, Part, SECOND, TWO_PUTS, directory_of, name_of, script_of, words_of,
 };
 use super::*;
 use cache_model::Settings;
@@ -35,6 +36,23 @@ const SECOND_PUT: &[u8] = &[
 const NOT_SEALED: &[u8] = &[
     0, 1, 1, 0, 0, 0, 0, 0, 0, 0, 1, 255, 255, 255, 255, 255, 255, 255, 255, 0, 1, 0, 0, 0, 1, 97,
     98,
+];
+
+// What the compaction of a file leaves of three puts of `x` under `a` and one of `v1` under `k`: the third and the fourth,
+// as they were numbered. Behind them stands a put of `v2` under `k`, in the same frame.
+const COPIES_AND_PUT: &[u8] = &[
+    1, 1, 1, 0, 0, 0, 0, 0, 0, 0, 3, 255, 255, 255, 255, 255, 255, 255, 255, 0, 1, 0, 0, 0, 1, 97,
+    120, 1, 0, 0, 0, 0, 0, 0, 0, 4, 255, 255, 255, 255, 255, 255, 255, 255, 0, 1, 0, 0, 0, 2, 107,
+    118, 49, 1, 0, 0, 0, 0, 0, 0, 0, 5, 255, 255, 255, 255, 255, 255, 255, 255, 0, 1, 0, 0, 0, 2,
+    107, 118, 50, 0, 0, 0, 0, 0, 0, 0, 3, 232, 0,
+];
+
+// The newest records of three keys at the moment 1003: a put of `2` under `b` that ended then, with the number 2, the
+// removal of `c` with the number 4, and a put of `4` under `a` with the number 5.
+const NEWEST_OF_EACH: &[u8] = &[
+    1, 1, 1, 0, 0, 0, 0, 0, 0, 0, 2, 0, 0, 0, 0, 0, 0, 3, 235, 0, 1, 0, 0, 0, 1, 98, 50, 2, 0, 0,
+    0, 0, 0, 0, 0, 4, 0, 1, 99, 1, 0, 0, 0, 0, 0, 0, 0, 5, 255, 255, 255, 255, 255, 255, 255, 255,
+    0, 1, 0, 0, 0, 1, 97, 52, 0, 0, 0, 0, 0, 0, 0, 3, 235, 0,
 ];
 
 // The settings with other sizes of files, with or without a sync of each change, and with so many steps behind each answer.
@@ -73,7 +91,7 @@ pub(super) fn serve_lines(
 // A run over an empty directory: whether each change is synced, the script, what it says, and the files that stand then.
 type Run = (bool, &'static str, &'static str, &'static [NamedBytes]);
 
-const RUNS: [Run; 11] = [
+const RUNS: [Run; 9] = [
     // What isn't sealed stays behind its closed gate.
     (
         false,
@@ -121,19 +139,7 @@ const RUNS: [Run; 11] = [
         "opened 1000\nidle\nidle\nok\ndone\nidle\nstopped\n",
         &[(FIRST, ONE_PUT)],
     ),
-    (
-        true,
-        "put a b\nstep rotate\nput a c\n",
-        "opened 1000\nok\ndone\nok\nstopped\n",
-        &[(FIRST, ONE_PUT), (SECOND, SECOND_PUT)],
-    ),
     // What is live is the newest record of each key, also where it isn't sealed yet.
-    (
-        true,
-        "stats\nput a b\nstats\nstep rotate\nput a c\nstats\n",
-        "opened 1000\nstats files 0 bytes 0 live 0 pending 0 held 0\nok\nstats files 1 bytes 37 live 25 pending 0 held 0\ndone\nok\nstats files 2 bytes 74 live 25 pending 0 held 0\nstopped\n",
-        &[(FIRST, ONE_PUT), (SECOND, SECOND_PUT)],
-    ),
     (
         false,
         "put k v1\nsync\nput k v2\nstats\nhalt\n",
@@ -147,6 +153,63 @@ const RUNS: [Run; 11] = [
         &[(FIRST, ONE_PUT)],
     ),
 ];
+
+// Runs that leave a file of which nothing is live: steps behind the answers would compact it.
+const DEAD: [Run; 2] = [
+    (
+        true,
+        "put a b\nstep rotate\nput a c\n",
+        "opened 1000\nok\ndone\nok\nstopped\n",
+        &[(FIRST, ONE_PUT), (SECOND, SECOND_PUT)],
+    ),
+    (
+        true,
+        "stats\nput a b\nstats\nstep rotate\nput a c\nstats\n",
+        "opened 1000\nstats files 0 bytes 0 live 0 pending 0 held 0\nok\nstats files 1 bytes 37 live 25 pending 0 held 0\ndone\nok\nstats files 2 bytes 74 live 25 pending 0 held 0\nstopped\n",
+        &[(FIRST, ONE_PUT), (SECOND, SECOND_PUT)],
+    ),
+];
+
+// Runs that compact files line by line.
+const COMPACTED: [Run; 4] = [
+    // A turn is idle where there is no file, and where only the one that is written has few live bytes.
+    (
+        true,
+        "step compact\nput a b\nput a A\nstep compact\n",
+        "opened 1000\nidle\nok\nok\nidle\nstopped\n",
+        &[(FIRST, TWO_PUTS)],
+    ),
+    // So it is where most bytes are live. Once none is, each turn takes one action.
+    (
+        true,
+        "put a b\nstep rotate\nstep compact\nput a c\nstep compact\nstep compact\nstep compact\nstep compact\n",
+        "opened 1000\nok\ndone\nidle\nok\ndone\ndone\ndone\nidle\nstopped\n",
+        &[(SECOND, SECOND_PUT)],
+    ),
+    // Two records are passed over, two are copied, and then the file goes. What is put between is newer than its copy.
+    (
+        true,
+        "put a x\nput a x\nput a x\nput k v1\nstep rotate\nstep index\nstep index\nstep index\nstep index\nstep compact\nstep compact\nstep compact\nstep compact\nput k v2\nstep index\nstep index\nstep index\nstep index\nget k\nstep compact\nstep compact\nstep compact\nstats\n",
+        "opened 1000\nok\nok\nok\nok\ndone\ndone\ndone\ndone\ndone\ndone\ndone\ndone\ndone\nok\ndone\ndone\ndone\nidle\nvalue v2\ndone\ndone\nidle\nstats files 1 bytes 89 live 51 pending 0 held 0\nstopped\n",
+        &[(SECOND, COPIES_AND_PUT)],
+    ),
+    // A record is copied where it is its key's newest, also one that expired and one that removes its key. What was put
+    // before them isn't.
+    (
+        true,
+        "put a 1\nput b 2 ttl 3\nput c 3\nat 1003\nremove c\nput a 4\nstep rotate\nstep compact\nstep compact\nstep compact\nstep compact\nstep compact\nstep compact\nstep compact\nstep compact\nkeys\n",
+        "opened 1000\nok\nok\nok\nok\nok\nok\ndone\ndone\ndone\ndone\ndone\ndone\ndone\ndone\nidle\nkeys a\nstopped\n",
+        &[(SECOND, NEWEST_OF_EACH)],
+    ),
+];
+
+// A run whose steps behind the answers compact the file.
+const COMPACTED_BEHIND: [Run; 1] = [(
+    true,
+    "put a b\nstep rotate\nput a c\n",
+    "opened 1000\nok\ndone\nok\nstopped\n",
+    &[(SECOND, SECOND_PUT)],
+)];
 
 // A host over an empty directory.
 fn empty_host(rt: &impl Abort, alloc: Global) -> Result<MemoryHost, Fail> {
@@ -169,12 +232,12 @@ fn has_files(
     Ok(())
 }
 
-// Whatever so many steps behind each answer do, the runs come out.
-fn runs_come_out(rt: &impl Abort, alloc: Global, pump: u64) -> Result<(), Fail>
+// With so many steps behind each answer the runs come out.
+fn runs_come_out(rt: &impl Abort, alloc: Global, pump: u64, runs: &[Run]) -> Result<(), Fail>
     requires { pump ≤ 1000 }
 {
-    for (sync_writes, script, said, files) in RUNS {
-        let settings = settings_of(alloc, 0, sync_writes, pump)?;
+    for (sync_writes, script, said, files) in runs {
+        let settings = settings_of(alloc, 0, *sync_writes, pump)?;
         let mut host = empty_host(rt, alloc)?;
         let script = script.as_bytes().to_vec(alloc)?;
         let status = serve_lines(alloc, &settings, &mut host, script)?;
@@ -187,10 +250,13 @@ fn runs_come_out(rt: &impl Abort, alloc: Global, pump: u64) -> Result<(), Fail>
 
 #[test]
 fn runs_by_settings_come_out(rt: HostRuntime) -> Result<(), Fail> {
-    runs_come_out(&rt, rt.alloc(), 0)?;
-    runs_come_out(&rt, rt.alloc(), 1)?;
-    runs_come_out(&rt, rt.alloc(), 5)?;
-    runs_come_out(&rt, rt.alloc(), 1000)
+    runs_come_out(&rt, rt.alloc(), 0, &DEAD)?;
+    runs_come_out(&rt, rt.alloc(), 0, &COMPACTED)?;
+    runs_come_out(&rt, rt.alloc(), 1000, &COMPACTED_BEHIND)?;
+    runs_come_out(&rt, rt.alloc(), 0, &RUNS)?;
+    runs_come_out(&rt, rt.alloc(), 1, &RUNS)?;
+    runs_come_out(&rt, rt.alloc(), 5, &RUNS)?;
+    runs_come_out(&rt, rt.alloc(), 1000, &RUNS)
 }
 
 // What wasn't sealed is read by no later run, and what was is.

@@ -88,8 +88,9 @@ const DEFAULTS: [&str; 8] = [
 ];
 
 // Texts of settings that are in force, and what shows of them.
-const IN_FORCE: [(&str, &str); 10] = [
+const IN_FORCE: [(&str, &str); 11] = [
     ("file_size = 4096", "file_size: 4096,"),
+    ("compact_below = 49", "compact_below: 49,"),
     ("pump = 0", "pump: 0,"),
     ("pump = 1000 # the most", "pump: 1000,"),
     ("\"pump\" = 3", "pump: 3,"),
@@ -108,7 +109,7 @@ const IN_FORCE: [(&str, &str); 10] = [
 ];
 
 // Texts that are wrong.
-const WRONG: [&str; 28] = [
+const WRONG: [&str; 27] = [
     // No document.
     "pump",
     "pump =",
@@ -134,7 +135,6 @@ const WRONG: [&str; 28] = [
     "settings.pump = 1",
     "pump.steps = 1",
     // In their ranges, and not built yet.
-    "compact_below = 49",
     "nodes = 8",
     "mode = \"behind\"",
     "behind_limit = 1",

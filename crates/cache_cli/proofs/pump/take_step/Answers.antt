@@ -25,8 +25,7 @@ returns-clause-pumped g c = λ tells from course ordered left talk taken pumping
       | in-Ok w ↦
           let ensures = w.in-Ok.ensures in
           let turn = ensures.turns tells [] (plain_of talk) pumping.0.moment pumping.0.standing.shows in
-          let follows = c.requires.follows course.pace.queue (store_of session) (store_of after) c.args.host.now c.turn.new.host ensures.goes.same pumping.0.follows in
-          let taken_one = step_taken start course ordered left talk taken old new kind spoilt pumping ensures.goes.same next room w.in-Ok.field-0 follows ensures.goes.unspoilt ensures.goes.goes turn in
+          let taken_one = step_taken start course ordered left talk taken old new kind spoilt pumping ensures.goes.same next room w.in-Ok.field-0 (g.met.H.Host.reads_now c.args.host.now tells) ensures.goes.unspoilt ensures.goes.goes turn in
           subst (λ (host : g.row.H.Denot). Pumped start course ordered left talk (suc taken) (at host) c.match-turn.result) (sym w.host-is)
           (subst (λ (r : Result (Unit {0}) Status). Pumped start course ordered left talk (suc taken) new r) (sym w.result-is) taken_one)
       | in-Err w ↦

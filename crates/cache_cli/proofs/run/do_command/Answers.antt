@@ -21,8 +21,7 @@ returns-in-Ok-clause-does g c = λ tells from course ordered left talk talking h
     let ensures = c.in-Ok.ensures in
     let turn = ensures.turns tells [] (plain_of talk) talking.0.moment talking.0.standing.shows in
     let unspoilt = ensures.goes.unspoilt in
-    let follows = c.requires.follows course.pace.queue (store_of session) (store_of after) c.args.host.now c.turn.new.host ensures.goes.same talking.0.follows in
-    does_ok start course ordered left talk old new c.args.command spoilt talking hand ensures.goes.same c.in-Ok.reply c.requires.built (g.met.H.Host.reads_now c.args.host.now tells) follows unspoilt
+    does_ok start course ordered left talk old new c.args.command spoilt talking hand ensures.goes.same c.in-Ok.reply c.requires.built (g.met.H.Host.reads_now c.args.host.now tells) unspoilt
     (g.met.S.ReadStore.holds_now (store_of after) c.turn.new.host tells (second_false (is_broken after) (g.S.Keyed.facts (store_of after)).spoilt unspoilt) (ensures.stands tells unspoilt))
     ensures.goes.goes turn
 
@@ -40,8 +39,7 @@ returns-then-is_refusal-clause-does g c = λ tells from course ordered left talk
     let turn = ensures.turns tells [] (plain_of talk) talking.0.moment talking.0.standing.shows in
     let is = refusal_is c.may_be_refused-refusable.result spoilt c.in-Err.fault (sym c.if-is_refusal.true ∙ c.is_refusal.ensures) in
     let turn_memory = subst (λ (x : StoreFault). Turns [] (plain_of talk) c.args.command old.facts new.facts spoilt old.store new.store a b (Err x)) is.2 turn in
-    let follows = c.requires.follows course.pace.queue (store_of session) (store_of after) c.args.host.now c.turn.new.host ensures.goes.same talking.0.follows in
-    does_refused start course ordered left talk old new c.args.command spoilt talking hand ensures.goes.same follows is.1 (sym c.may_be_refused-refusable.ensures ∙ is.0) ensures.goes.stays turn_memory
+    does_refused start course ordered left talk old new c.args.command spoilt talking hand ensures.goes.same is.1 (sym c.may_be_refused-refusable.ensures ∙ is.0) ensures.goes.stays turn_memory
 
 pub returns-else-is_refusal-clause-does : goal.returns-else-is_refusal-clause-does
 returns-else-is_refusal-clause-does g c = λ tells from course ordered left talk talking hand.

@@ -3,15 +3,12 @@ use Rattle.cache_model.specs.declared.faults.StoreFault.{StoreFault}
 use Rattle.cache_model.specs.Lines.{lines_of}
 use Rattle.cache_session.specs.Turns.{store_of}
 use Rattle.cache_cli.specs.Serving.{course_by}
-use Rattle.cache_cli.proofs.Serving.{still_then, started_same, opened_by, begins, later_of, later_fits, serves_whole, serves_early, serves_damage, index_spent, store_in_range, follows_on}
+use Rattle.cache_cli.proofs.Serving.{still_then, started_same, opened_by, begins, later_of, later_fits, serves_whole, serves_early, serves_damage, index_spent, store_in_range}
 use Rattle.cache_cli.proofs.Same.{damage_same}
 use Rattle.cache_cli.proofs.serve.serve_store.Goals as goal
 
 pub start-requires-clause-settings : goal.start-requires-clause-settings
 start-requires-clause-settings g c = store_in_range c.args.settings.now c.requires.range
-
-pub run_store-ran-requires-clause-follows : goal.run_store-ran-requires-clause-follows
-run_store-ran-requires-clause-follows g c = λ queue store next host later same follows. follows_on _ queue store next (g.H.Host.state host) (g.H.Host.state later) same follows
 
 pub run_store-ran-requires-clause-ready : goal.run_store-ran-requires-clause-ready
 run_store-ran-requires-clause-ready g c = record {
