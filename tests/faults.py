@@ -245,6 +245,7 @@ def test_damage_that_a_step_reads(folder):
 
 def test_damage_that_nothing_reads(folder):
     """A data file that is changed under a running session isn't looked at as long as no record in it is read."""
+    set_folder(folder, "pump = 0\n")
     talk = Talk(folder)
     talk.hear(b"opened 1000\n")
     talk.ask(b"put k value", b"ok")

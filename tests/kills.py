@@ -7,7 +7,9 @@ import time
 import support
 from support import DONE, Failed, equal
 
-AT = ["--at", "1000"]
+MOMENT = 1000
+
+AT = ["--at", str(MOMENT)]
 
 # How often a run is killed, and how long all of it may take at the most, in seconds.
 KILLS, SECONDS = 200, 20
@@ -26,21 +28,23 @@ def puts_of(round):
     ]
 
 
-def lines_of(puts, choice, settings):
+def lines_of(folder, puts, choice, settings):
     """The lines of some puts, each with its answer and the put that it makes, if it makes one. There are lines `sync`,
-    `step index` and `step rotate` between them."""
-    lines, parts = [], support.Parts(settings)
+    `step index`, `step rotate` and `step compact` between them."""
+    lines, files = [], support.Files(folder, settings)
+    parts = support.Parts(settings, files)
     for put in puts:
         lines.append((b"put %s %s" % put, b"ok", put))
-        parts.change()
-        parts.answered()
+        parts.change(*put, MOMENT)
+        parts.answered(MOMENT)
         while choice.random() < 0.15:
-            kind = choice.choice(["sync", "sync", "index", "rotate", "rotate"])
+            kind = choice.choice(["sync", "sync", "index", "rotate", "rotate", "compact", "compact"])
             if kind == "sync":
+                files.seal(MOMENT)
                 lines.append((b"sync", b"ok", None))
             else:
-                lines.append((b"step %s" % kind.encode(), parts.step(kind), None))
-            parts.answered()
+                lines.append((b"step %s" % kind.encode(), parts.step(kind, MOMENT), None))
+            parts.answered(MOMENT)
     return lines
 
 
@@ -90,7 +94,7 @@ def test_kills_at_many_points(folder):
     held = dict.fromkeys(KEYS)
     for round in range(KILLS):
         settings = support.draw_settings(folder, choice)
-        lines = lines_of(puts_of(round), choice, settings)
+        lines = lines_of(folder, puts_of(round), choice, settings)
         script = b"".join(text + b"\n" for text, *_ in lines)
         # A run is killed from the first answer on, and by then at any point within a line.
         said, is_done = killed_after(folder, script, choice.randrange(20), choice.random() * 0.002)

@@ -3,7 +3,7 @@
 import resource
 
 import support
-from support import DONE, check_names, equal, log_name
+from support import DONE, SETTINGS_FILE, check_names, equal, log_name, set_folder
 
 MANY = 10_000
 
@@ -16,7 +16,8 @@ def limited(most):
 
 
 def write_files(folder, count):
-    """So many data files. Each has a key of its own, and a record of one key that all share."""
+    """So many data files. Each has a key of its own, and a record of one key that all share. No step compacts them."""
+    set_folder(folder, "pump = 0\n")
     for number in range(1, count + 1):
         puts = [(b"k%d" % number, b"v%d" % number), (b"all", b"%d" % number), (b"x%d" % number, b"")]
         path = folder / log_name(number)
@@ -33,7 +34,7 @@ def check_read(folder, count, most):
     got = support.run([folder, "--at", "1"], script, preexec_fn=limited(most))
     equal(got[0], DONE, "the status")
     equal(got[1:], (text, b""), "what is said and the errors")
-    check_names(folder, [log_name(number) for number in range(1, count + 2)])
+    check_names(folder, [SETTINGS_FILE, *[log_name(number) for number in range(1, count + 2)]])
 
 
 def test_many_files(folder):

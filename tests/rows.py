@@ -121,9 +121,10 @@ def test_files_that_are_closed(folder):
 
 
 def test_steps_behind_answers(folder):
-    """Background steps leave a line nothing to do where they did its work, and change no other answer and no file. With one
-    behind each answer those of the index follow the first, the fifth and the ninth."""
-    for pump, indexed in ((0, "done"), (1, "done"), (2, "idle"), (5, "idle"), (1000, "idle")):
+    """Background steps leave a line nothing to do where they did its work, and change no other answer, and no file where
+    none has few live bytes. With one behind each answer a turn of a compaction follows the third, and takes what waits for
+    the index."""
+    for pump, indexed in ((0, "done"), (1, "idle"), (2, "idle"), (5, "idle"), (1000, "idle")):
         place = folder / str(pump)
         place.mkdir()
         set_folder(place, f"pump = {pump}\n")
@@ -186,7 +187,8 @@ def test_counts_of_files(folder):
     for pump, queue in ((0, 64), (0, 1), (1, 64), (1000, 64)):
         place = folder / f"{pump}-{queue}"
         place.mkdir()
-        set_folder(place, f"pump = {pump}\nqueue = {queue}\n")
+        # No file has fewer live bytes than one percent, so that none is compacted.
+        set_folder(place, f"pump = {pump}\nqueue = {queue}\ncompact_below = 1\n")
         check_answers(place, 1000, [
             (b"stats", counts(0, 0, 0)),
             (b"put a x", "ok"),
@@ -223,6 +225,42 @@ def test_counts_of_unsealed_records(folder):
         (b"stats", counts(1, 100, 26)),
     ])
     check_sizes(folder, [100])
+
+
+def check_compacted(folder, size):
+    """Asks for the second data file alone, of this size, and the settings file."""
+    check_names(folder, [SETTINGS_FILE, log_name(2)])
+    equal((folder / log_name(2)).stat().st_size, size, f"the size of {log_name(2)}")
+
+
+def test_compaction_line_by_line(folder):
+    """Each turn of a compaction takes one action: two records are passed over, two are copied, the log needs no stamp, and
+    the file goes. A put between them is newer than the copy of its key."""
+    set_folder(folder, "pump = 0\n")
+    check_answers(folder, 1000, [
+        *[(b"put a x", "ok")] * 3,
+        (b"put k v1", "ok"),
+        (b"step rotate", "done"),
+        *[(b"step index", "done")] * 4,
+        *[(b"step compact", "done")] * 4,
+        (b"put k v2", "ok"),
+        *[(b"step index", "done")] * 3,
+        (b"step index", "idle"),
+        (b"get k", "value v2"),
+        *[(b"step compact", "done")] * 2,
+        (b"step compact", "idle"),
+        (b"stats", counts(1, 89, 51)),
+    ])
+    check_compacted(folder, 89)
+    check_answers(folder, 5, [(b"get a", "value x"), (b"get k", "value v2"), (b"step compact", "idle")], opened=1000)
+
+
+def test_compaction_behind_answers(folder):
+    """Background steps compact a file that has few live bytes, and change no answer."""
+    set_folder(folder, "pump = 1000\n")
+    check_answers(folder, 1000, [(b"put a b", "ok"), (b"step rotate", "done"), (b"put a c", "ok"), (b"get a", "value c")])
+    check_compacted(folder, 37)
+    check_answers(folder, 1000, [(b"get a", "value c")])
 
 
 def test_removal_of_one_hash(folder):

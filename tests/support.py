@@ -29,14 +29,16 @@ SETTINGS_FILE = "cache.toml"
 # The values that tests draw for settings, where None leaves the default.
 DRAWN_SETTINGS = {
     "file_size": [None, 4096, 5000, 16384],
+    "compact_below": [None, 1, 50, 99],
     "sync_writes": [None, "true", "false", "false"],
     "hash_bits": [None, 0, 3, 32],
     "queue": [None, 1, 1, 2, 3, 16, 65536],
     "pump": [None, 0, 0, 1, 3, 5, 1000],
 }
 
-# How many requests may wait for the index, and how many background steps follow an answer, by default.
-QUEUE, PUMP = 1000, 1
+# How many requests may wait for the index, how many background steps follow an answer, and of how many percent of a data
+# file's bytes fewer are live where it is compacted, by default.
+QUEUE, PUMP, COMPACT_BELOW = 1000, 1, 50
 
 # The background steps come in this order, again and again.
 BACKGROUND = ["index", "flush", "compact", "reap"]
@@ -50,8 +52,9 @@ FILE_SIZE, BITS = 16777216, 32
 FRAME_END = 10
 
 # What tests go by of the settings that were drawn: whether each write is synced, how many requests may wait for the index,
-# how many background steps follow an answer, what size a data file gets, and the bits of the keys' hash.
-Settings = collections.namedtuple("Settings", "synced queue pump file_size bits")
+# how many background steps follow an answer, what size a data file gets, the bits of the keys' hash, and the percent below
+# which a file is compacted.
+Settings = collections.namedtuple("Settings", "synced queue pump file_size bits compact_below")
 
 # A record whose value is None removes its key, and has no expiry.
 Frame = collections.namedtuple("Frame", "records moment")
@@ -133,85 +136,145 @@ def draw_settings(folder, choice):
         given.get("pump", PUMP),
         given.get("file_size", FILE_SIZE),
         given.get("hash_bits", BITS),
+        given.get("compact_below", COMPACT_BELOW),
     )
 
 
 class Parts:
-    """What steps do in a run: how many requests wait for the index, and whether a data file is being written. The background
-    steps behind the answers are numbered through the whole run."""
+    """What steps do in a run: how many requests wait for the index, the data files, and the compaction that is under way,
+    where there is one. The background steps behind the answers are numbered through the whole run."""
 
-    def __init__(self, settings):
-        self.queue, self.pump = settings.queue, settings.pump
-        self.waiting, self.writes, self.steps = 0, False, 0
+    def __init__(self, settings, files):
+        self.settings, self.files = settings, files
+        self.waiting, self.steps = 0, 0
+        # The file under compaction, its records, and how many turns were done.
+        self.run = None
 
-    def change(self):
-        """A change was written. Where the queue was full, one request was taken first."""
-        self.waiting = min(self.waiting + 1, self.queue)
-        self.writes = True
+    def change(self, key, value, moment):
+        """A change is written: a removal where the value is None. Where the queue is full, one request is taken first."""
+        self.wait()
+        self.files.write(Written(key, record_length(key, value)), moment)
+        if self.settings.synced:
+            self.files.seal(moment)
 
-    def step(self, kind):
+    def wait(self):
+        self.waiting = min(self.waiting + 1, self.settings.queue)
+
+    def step(self, kind, moment):
         """Takes a step, and gives its answer."""
         is_done = False
         if kind == "index" and self.waiting:
             self.waiting -= 1
             is_done = True
-        if kind == "rotate" and self.writes:
-            self.writes = False
+        if kind == "rotate" and self.files.current:
+            self.files.rotate(moment)
             is_done = True
+        if kind == "compact":
+            is_done = self.compact(moment)
         return b"done" if is_done else b"idle"
+
+    def compact(self, moment):
+        """Takes a turn of a compaction: a record is looked at, or the log is stamped, or the file goes."""
+        if not self.run:
+            self.waiting = 0
+            number = self.files.candidate()
+            if not number:
+                return False
+            self.run = (number, list(self.files.records[number]), 0)
+        number, records, done = self.run
+        self.run = (number, records, done + 1)
+        if done < len(records):
+            if self.files.newest[records[done].key] is records[done]:
+                record = records[done]
+                self.wait()
+                self.files.write(Written(record.key, record.length), moment)
+        elif done == len(records):
+            self.files.stamp(moment)
+        else:
+            self.files.forget(number)
+            self.waiting = min(len(records), self.settings.queue)
+            self.run = None
+        return True
 
     def count(self):
         """The files were counted: nothing waits for the index then."""
         self.waiting = 0
 
-    def answered(self):
+    def answered(self, moment):
         """Takes the background steps behind an answer."""
-        for _ in range(self.pump):
-            self.step(BACKGROUND[self.steps % len(BACKGROUND)])
+        for _ in range(self.settings.pump):
+            self.step(BACKGROUND[self.steps % len(BACKGROUND)], moment)
             self.steps += 1
 
 
 class Files:
-    """The data files of a folder as a run writes them: the size of each, where the newest record of each key stands, with its
-    length, and whether the file that is being written, where there is one, has something that isn't sealed."""
+    """The data files of a folder as a run writes them: the size of each, and its records; the newest record of each key; the
+    file that is being written, where there is one, whether it has something that isn't sealed, and the moment of its last
+    frame."""
 
     def __init__(self, folder, settings):
         self.settings = settings
         self.sizes = {int(path.stem[3:]): path.stat().st_size for path in folder.glob("s0-*.log")}
-        self.newest = {}
+        self.records = {number: [] for number in self.sizes}
+        self.newest, self.made = {}, max(self.sizes, default=0)
+        sequences = {}
         for number in sorted(self.sizes):
             for frame in counted_frames(folder / log_name(number)):
                 for record in frame.records:
-                    self.read(number, record)
-        self.newest = {key: place[1:] for key, place in self.newest.items()}
-        self.current, self.unsealed = None, False
+                    written = Written(record.key, record_length(record.key, record.value))
+                    self.records[number].append(written)
+                    if sequences.get(record.key, 0) <= record.sequence:
+                        sequences[record.key] = record.sequence
+                        self.newest[record.key] = written
+        self.current, self.unsealed, self.moment = None, False, None
 
-    def read(self, number, record):
-        if record.key not in self.newest or self.newest[record.key][0] <= record.sequence:
-            self.newest[record.key] = (record.sequence, number, record_length(record.key, record.value))
+    def begin(self):
+        self.made += 1
+        self.current, self.moment = self.made, None
+        self.sizes[self.current], self.records[self.current] = 2, []
 
-    def change(self, key, value):
-        """A record was written: that of a removal where the value is None."""
-        length = record_length(key, value)
-        if self.current and self.sizes[self.current] + length + FRAME_END > self.settings.file_size:
-            self.rotate()
+    def write(self, record, moment):
+        """A record is written, the newest one of its key."""
+        if self.current and self.sizes[self.current] + record.length + FRAME_END > self.settings.file_size:
+            self.rotate(moment)
         if not self.current:
-            self.current = max(self.sizes, default=0) + 1
-            self.sizes[self.current] = 2
-        self.sizes[self.current] += length
-        self.newest[key] = (self.current, length)
+            self.begin()
+        self.sizes[self.current] += record.length
+        self.records[self.current].append(record)
+        self.newest[record.key] = record
         self.unsealed = True
-        if self.settings.synced:
-            self.seal()
 
-    def seal(self):
+    def seal(self, moment):
         if self.unsealed:
             self.sizes[self.current] += FRAME_END
+            self.moment = moment
         self.unsealed = False
 
-    def rotate(self):
-        self.seal()
+    def stamp(self, moment):
+        """The last frame gets this moment, or an empty one behind it does."""
+        if not self.current:
+            self.begin()
+        if self.moment != moment:
+            self.unsealed = True
+        self.seal(moment)
+
+    def rotate(self, moment):
+        self.seal(moment)
         self.current = None
+
+    def live(self, number):
+        return sum(record.length for record in self.records[number] if self.newest[record.key] is record)
+
+    def candidate(self):
+        """The first file, other than the one that is being written, that has too few live bytes."""
+        for number in sorted(self.sizes):
+            is_low = self.live(number) * 100 < self.settings.compact_below * self.sizes[number]
+            if number != self.current and is_low:
+                return number
+        return None
+
+    def forget(self, number):
+        del self.sizes[number], self.records[number]
 
     def hash(self, key):
         """The hash of a key: it comes first in the order in which a clear removes keys."""
@@ -222,9 +285,15 @@ class Files:
 
     def figures(self):
         """The answer to the line `stats`."""
-        live = sum(length for _, length in self.newest.values())
-        figures = (len(self.sizes), sum(self.sizes.values()), live)
+        figures = (len(self.sizes), sum(self.sizes.values()), sum(map(self.live, self.sizes)))
         return b"stats files %d bytes %d live %d pending 0 held 0" % figures
+
+
+class Written:
+    """A record of a data file: its key and its length. Two with the same key and length are not the same."""
+
+    def __init__(self, key, length):
+        self.key, self.length = key, length
 
 
 def record_length(key, value):
