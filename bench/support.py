@@ -33,6 +33,13 @@ def measured(bare, *words):
     return [float(number) for number in ran.stdout.split()]
 
 
+def feed(process, lines):
+    """Gives a session these lines, and no more yet."""
+    for line in lines:
+        process.stdin.write(line)
+    process.stdin.flush()
+
+
 # The moment of the data files.
 MOMENT = 1000
 
@@ -58,15 +65,20 @@ def key_of(sequence, keys):
     return b"key%d" % (sequence % keys) if keys else b"key%08x" % (sequence * 2654435761 % 2**32)
 
 
-def write_file(folder, number, size, sequences, keys, value):
-    """A data file of at most so many bytes, one frame for each put, from the first of these numbers on. It gives the places
-    of its records."""
+def puts_of(sequences, keys):
+    """Puts with these numbers, each with its key."""
+    return ((sequence, key_of(sequence, keys)) for sequence in sequences)
+
+
+def write_file(folder, number, size, puts, value):
+    """A data file of at most so many bytes, one frame for each put, from the first of these numbers and keys on. It gives
+    the places of its records."""
     places = []
     with (folder / log_name(number)).open("wb") as file:
         file.write(OPEN + VERSION)
         at = 2
-        for sequence in sequences:
-            one = record(sequence, key_of(sequence, keys), b"v" * value)
+        for sequence, key in puts:
+            one = record(sequence, key, b"v" * value)
             if at + len(one) + len(END) + 1 > size:
                 break
             # The gate behind a frame is the one before the next.
@@ -83,7 +95,7 @@ def write_files(folder, files, size, keys, value):
     folder.mkdir()
     count = 0
     for number in range(1, files + 1):
-        count += len(write_file(folder, number, size, range(count + 1, sys.maxsize), keys, value))
+        count += len(write_file(folder, number, size, puts_of(range(count + 1, sys.maxsize), keys), value))
     return count
 
 
@@ -93,7 +105,7 @@ def write_records(folder, count, size, value):
     places, number = [], 0
     while len(places) < count:
         number += 1
-        more = write_file(folder, number, size, range(len(places) + 1, count + 1), 0, value)
+        more = write_file(folder, number, size, puts_of(range(len(places) + 1, count + 1), 0), value)
         if not more:
             sys.exit("bench: a file has no room for one record")
         places += more
