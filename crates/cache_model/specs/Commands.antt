@@ -3,7 +3,7 @@ use Rattle.std.specs.Prelude.{◌<◌, ◌^◌}
 use Rattle.cache_model.specs.declared.entries.Lifespan.{Lifespan}
 use Rattle.cache_model.specs.declared.entries.Lifespan.TheVariants.{Endless, Of}
 use Rattle.cache_model.specs.declared.commands.Command.{Command}
-use Rattle.cache_model.specs.declared.commands.Command.TheVariants.{At, Put, PutAbsent, Replace, ReplaceIf, Evict, CompactAll, CompactFile, Export}
+use Rattle.cache_model.specs.declared.commands.Command.TheVariants.{At, Put, PutAbsent, Replace, ReplaceIf, Evict, CompactAll, Export}
 
 -- a lifespan is endless, or below 2^61
 abbrev pub IsLifespan : Lifespan → Type 0
@@ -23,6 +23,5 @@ IsCommand command = Unit {0}
 abbrev pub HasLine : Command → Type 0
 HasLine (Evict key) = ⊥
 HasLine CompactAll = ⊥
-HasLine (CompactFile number) = ⊥
 HasLine Export = ⊥
 HasLine command = Unit {0}

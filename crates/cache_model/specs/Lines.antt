@@ -9,7 +9,7 @@ use Rattle.std.specs.Str.Parse.{digits_value}
 use Rattle.cache_model.specs.declared.entries.Lifespan.{Lifespan}
 use Rattle.cache_model.specs.declared.entries.Lifespan.TheVariants.{Endless, Of}
 use Rattle.cache_model.specs.declared.commands.Command.{Command}
-use Rattle.cache_model.specs.declared.commands.Command.TheVariants.{At, Put, PutAbsent, Replace, ReplaceIf, Get, Has, Remove, RemoveIf, Size, Keys, Clear, Step, Evict, Sync, Stats, Stop, Halt}
+use Rattle.cache_model.specs.declared.commands.Command.TheVariants.{At, Put, PutAbsent, Replace, ReplaceIf, Get, Has, Remove, RemoveIf, Size, Keys, Clear, Step, Evict, Sync, CompactFile, Stats, Stop, Halt}
 use Rattle.cache_model.specs.declared.commands.StepKind.{StepKind}
 use Rattle.cache_model.specs.declared.commands.StepKind.TheVariants.{Index, Compact, Rotate}
 use Rattle.cache_model.specs.Replies.{Refusal, long, syntax, key_length, value_length, ttl}
@@ -77,12 +77,19 @@ abbrev pub takes_nothing : Command → Arguments
 takes_nothing command [] = Some command
 takes_nothing command (word ∷ words) = None
 
--- a moment: `N`, below 2^61
+-- a number: `N`, below this one
+abbrev pub takes_below : ℕ → (ℕ → Command) → Arguments
+takes_below end make [] = None
+takes_below end make (number ∷ []) = option_and_then (λ n. if nat_lt n end then Some (make n) else None) (number_of number)
+takes_below end make (number ∷ more ∷ words) = None
+
+-- a moment: below 2^61
 abbrev pub takes_moment : (ℕ → Command) → Arguments
-takes_moment make [] = None
-takes_moment make (moment ∷ []) =
-    option_and_then (λ n. if nat_lt n (2 ^ 61) then Some (make n) else None) (number_of moment)
-takes_moment make (moment ∷ more ∷ words) = None
+takes_moment make = takes_below (2 ^ 61) make
+
+-- the number of a file: below 2^32
+abbrev pub takes_file : (ℕ → Command) → Arguments
+takes_file make = takes_below (2 ^ 32) make
 
 -- a key: `K`
 abbrev pub takes_key : (List ℕ → Command) → Arguments
@@ -134,6 +141,7 @@ command_rows =
     ∷ (codes "clear", takes_nothing Clear)
     ∷ (codes "step", takes_step)
     ∷ (codes "sync", takes_nothing Sync)
+    ∷ (codes "compact", takes_file CompactFile)
     ∷ (codes "stats", takes_nothing Stats)
     ∷ (codes "stop", takes_nothing Stop)
     ∷ (codes "halt", takes_nothing Halt)

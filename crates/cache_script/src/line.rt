@@ -1,11 +1,11 @@
 // One line of a script, as a command.
 ghost use Rattle.std.specs.Prelude.{◌≡◌, option_map, IfOk, IfErr, List, ℕ, Some};
 ghost use Rattle.cache_model.specs.Commands.{IsCommand, HasLine};
-ghost use Rattle.cache_model.specs.Lines.{content_meaning, within_limits, ttl_refusal, takes_nothing, takes_moment, takes_key, takes_key_value, takes_entry, takes_exchange, takes_step};
+ghost use Rattle.cache_model.specs.Lines.{content_meaning, within_limits, ttl_refusal, takes_nothing, takes_moment, takes_file, takes_key, takes_key_value, takes_entry, takes_exchange, takes_step};
 ghost use Rattle.cache_model.specs.Plain.{Plain};
 ghost use Rattle.cache_model.specs.Replies.{refused};
 ghost use Rattle.cache_model.specs.Transcript.{Answers};
-ghost use Rattle.cache_model.specs.declared.commands.Command.TheVariants.{At, ReplaceIf, RemoveIf};
+ghost use Rattle.cache_model.specs.declared.commands.Command.TheVariants.{At, CompactFile, ReplaceIf, RemoveIf};
 ghost use Rattle.cache_script.specs.Reading.{Reads};
 ghost use Rattle.cache_script.specs.Refusals.{refusal_of};
 ghost use Rattle.cache_script.specs.Rows.{put_command, key_command, sole_command, row_arguments};
@@ -45,6 +45,7 @@ fn read_row(alloc: Global, row: Row, words: &mut Words<'_>) -> Result<Command, L
 {
     match row {
         Row::Moment => read_moment(words),
+        Row::File => read_file(words),
         Row::Put(kind) => read_put(alloc, kind, words),
         Row::Exchange => read_exchange(alloc, words),
         Row::Key(kind) => read_key(alloc, kind, words),
@@ -81,6 +82,23 @@ fn read_moment(words: &mut Words<'_>) -> Result<Command, LineFault>
         Ok(Command::At(moment))
     } else {
         Err(LineFault::Syntax)
+    }
+}
+
+// The command that compacts a file.
+fn read_file(words: &mut Words<'_>) -> Result<Command, LineFault>
+    ensures read { Reads (within_limits (takes_file CompactFile words.old)) result }
+    ensures limits { IfOk result IsCommand }
+{
+    let Some(word) = words.next() else {
+        return Err(LineFault::Syntax);
+    };
+    let Some(number) = number_of(word) else {
+        return Err(LineFault::Syntax);
+    };
+    match u32::try_from(number) {
+        Ok(file) if words.is_done() => Ok(Command::CompactFile(file)),
+        Ok(_) | Err(_) => Err(LineFault::Syntax),
     }
 }
 

@@ -13,7 +13,7 @@ use std::process::Abort;
 use std::test::Fail;
 
 /// Lines without keys, and what is read of them.
-const SOLE_LINES: [(&str, &str); 48] = [
+const SOLE_LINES: [(&str, &str); 56] = [
     ("at 0", "Ok(At(0))"),
     ("at 00000000000000000007", "Ok(At(7))"),
     ("at 000000000000000000007", "Err(Syntax)"),
@@ -30,6 +30,14 @@ const SOLE_LINES: [(&str, &str); 48] = [
     ("sync", "Ok(Sync)"),
     ("sync x", "Err(Syntax)"),
     ("sync ", "Err(Syntax)"),
+    ("compact 0", "Ok(CompactFile(0))"),
+    ("compact 00000000000000000007", "Ok(CompactFile(7))"),
+    ("compact 4294967295", "Ok(CompactFile(4294967295))"),
+    ("compact 4294967296", "Err(Syntax)"),
+    ("compact 18446744073709551616", "Err(Syntax)"),
+    ("compact 1 2", "Err(Syntax)"),
+    ("compact 1 ", "Err(Syntax)"),
+    ("compact a", "Err(Syntax)"),
     ("stats", "Ok(Stats)"),
     ("stats 1", "Err(Syntax)"),
     ("step index", "Ok(Step(Index))"),
@@ -65,7 +73,7 @@ const SOLE_LINES: [(&str, &str); 48] = [
 ];
 
 /// Lines that name a key, and what is read of them.
-const KEY_LINES: [(&str, &str); 30] = [
+const KEY_LINES: [(&str, &str); 29] = [
     ("get a", "Ok(Get(Key { bytes: [97] }))"),
     ("has ~!", "Ok(Has(Key { bytes: [126, 33] }))"),
     ("remove %41", "Ok(Remove(Key { bytes: [65] }))"),
@@ -104,7 +112,6 @@ const KEY_LINES: [(&str, &str); 30] = [
     ("removeif %. %.", "Err(Key(0))"),
     ("removeif %. %", "Err(Syntax)"),
     ("evict a", "Err(Syntax)"),
-    ("compact 1", "Err(Syntax)"),
 ];
 
 /// Lines that put a value, and what is read of them.
