@@ -12,6 +12,7 @@ use Rattle.cache_model.specs.declared.commands.StepKind.{StepKind}
 use Rattle.cache_model.specs.declared.commands.StepKind.TheVariants.{Index, Flush, Compact, Evict, Reap, Rotate}
 use Rattle.cache_model.specs.declared.replies.Turned.{Turned}
 use Rattle.cache_model.specs.declared.replies.Turned.TheVariants.{Idle}
+use Rattle.cache_model.specs.Files.{Image}
 use Rattle.cache_model.specs.Hash.{precedes, follows}
 use Rattle.cache_disk.specs.State.{HostState, Rose, Silent}
 use Rattle.store_trait.specs.Meaning.{Reading, Content, read_in, seen, key_of, changed, Numbers, StoreFacts, StoreState}
@@ -67,6 +68,11 @@ pub record MakesOne (old new : StoreFacts) (result : Result Turned StoreFault) :
   pub numbers : OnOk result (IsNumbered 0 old.numbers new.numbers)
   pub idle : IfOk result (λ turned. turned ≡ Idle → new.made ≤ old.made)
   pub refused : IsErrOf result fault.Memory → new.spoilt ≡ false → DrawsNone old new
+
+-- A compaction of a file takes no number. It may make files.
+pub record TakesNone {T : Type 0} (old new : StoreFacts) (result : Result T StoreFault) : Type 0 where
+  pub drawn : new.drawn ≤ old.drawn
+  pub numbers : OnOk result (IsNumbered 0 old.numbers new.numbers)
 
 -- A step takes no number, and only that of a compaction may make a file.
 abbrev pub DrawsBy : StepKind → StoreFacts → StoreFacts → Result Turned StoreFault → Type 0
@@ -164,3 +170,24 @@ pub record Figured (f g : StoreFacts) (old new : StoreState) (before after : Hos
   pub content : OnOk result (IsKept f moment old.content new.content)
   pub marks : OnOk result (IsKeptAtMarks f after.turn old new)
   pub parts : IfOk result (λ figures. f.counts before.files figures f.parts g.parts)
+
+-- files may have read so between two states: a crash might have left them at a turn between
+abbrev pub MayHaveRead : HostState → HostState → Image → Type 0
+MayHaveRead before after files = (t : ℕ) × (before.turn ≤ t) × (t ≤ after.turn) × after.left t files
+
+-- no more files were made than the compaction of a file takes turns, where the files read so in between
+abbrev pub MakesFor : ℕ → StoreFacts → StoreFacts → HostState → HostState → Type 0
+MakesFor file f g before after = (mid : Image) × MayHaveRead before after mid × (g.made ≤ f.made + f.turns before.files mid file f.parts)
+
+-- the compaction of a file moved the parts with this answer, in so many turns, of which each made one file at the most
+abbrev pub CompactsIn : ℕ → StoreFacts → StoreFacts → HostState → HostState → Turned → Type 0
+CompactsIn file f g before after turned =
+    (mid : Image) × (turns : ℕ) × MayHaveRead before after mid × f.compacts before.files mid file turned turns f.parts g.parts × (g.made ≤ f.made + turns)
+
+-- The call of `compact_file` kept the content, at the call's moment and at the mark of each pair that may be left then.
+pub record CompactedFile (file : ℕ) (f g : StoreFacts) (old new : StoreState) (before after : HostState) (moment : ℕ) (result : Result Turned StoreFault) : Type 0 where
+  pub acts : Acts f g old new before after moment old.content result
+  pub content : OnOk result (IsKept f moment old.content new.content)
+  pub marks : OnOk result (IsKeptAtMarks f after.turn old new)
+  pub made : MakesFor file f g before after
+  pub parts : IfOk result (CompactsIn file f g before after)

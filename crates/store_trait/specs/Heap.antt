@@ -30,6 +30,8 @@ heap_facts store = record {
   empties = λ a b. b ≡ a;
   room = λ a b. b ≡ a;
   steps = λ files kind turned a b. (turned ≡ Idle) × (b ≡ a);
+  compacts = λ files mid file turned turns a b. (turned ≡ Idle) × (turns ≡ 0) × (b ≡ a);
+  turns = λ files mid file rows. 0;
   counts = λ files figures a b. (figures ≡ (0, 0, 0)) × (b ≡ a);
 }
 

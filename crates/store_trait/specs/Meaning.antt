@@ -108,6 +108,11 @@ pub record StoreFacts : Type 1 where
   pub room : List Row → List Row → Type 0
   -- how they go on by a step of a kind with an answer, where the files read so
   pub steps : Image → StepKind → Turned → List Row → List Row → Type 0
+  -- how they go on by the compaction of a file with an answer, in so many turns, where the files read so when it began, and so
+  -- once the compaction that was under way had ended
+  pub compacts : Image → Image → ℕ → Turned → ℕ → List Row → List Row → Type 0
+  -- how many turns it takes at the most from such parts
+  pub turns : Image → Image → ℕ → List Row → ℕ
   -- how they go on by a count of the files as they read, which gives how many there are, how many bytes they have, and
   -- how many of these are live
   pub counts : Image → ℕ × ℕ × ℕ → List Row → List Row → Type 0

@@ -147,4 +147,14 @@ impl<H: Host> FileStore<H> for HeapStore {
         self.latest = moment;
         Ok((0, 0, 0))
     }
+
+    fn compact_file(
+        &mut self,
+        _host: &mut H,
+        _file: u32,
+        moment: u64,
+    ) -> Result<Turned, StoreFault> {
+        self.latest = moment;
+        Ok(Turned::Idle)
+    }
 }

@@ -4,7 +4,7 @@ ghost use Rattle.cache_disk.specs.State.{HostState};
 ghost use Rattle.cache_disk.specs.Calls.{HasStoreCause};
 ghost use Rattle.store_trait.specs.Meaning.{StoreFacts, StoreState, IsChange};
 ghost use Rattle.store_trait.specs.Keeping.{Leaves, Carries, HoldsNow};
-ghost use Rattle.store_trait.specs.Calls.{IsReady, Plainly, DrawsBy, DrawsNone, DrawsOne, Loaded, Walked, Written, SyncedStore, Stepped, Figured};
+ghost use Rattle.store_trait.specs.Calls.{IsReady, Plainly, DrawsBy, DrawsNone, DrawsOne, Loaded, Walked, Written, SyncedStore, Stepped, Figured, CompactedFile, TakesNone};
 
 use cache_disk::Host;
 use cache_model::{Answer, Change, Key, StepKind, StoreFault, Turned};
@@ -99,7 +99,7 @@ pub trait Store<H: Host>: ReadStore<H> {
         ensures cause { HasStoreCause (H.state host.old) (H.state host.new) result };
 }
 
-/// A store of files, which can be counted.
+/// A store of files, which can be counted and compacted.
 pub trait FileStore<H: Host>: Store<H> {
     /// Counts the files: how many there are, how many bytes they have, and how many of these are live. After each fault,
     /// also after want of memory, the store may be used no more.
@@ -110,6 +110,19 @@ pub trait FileStore<H: Host>: Store<H> {
         ensures spoilt { OnErr result ((Self.facts self.new).spoilt ≡ true) }
         ensures draws { DrawsNone (Self.facts self.old) (Self.facts self.new) }
         ensures told { IsTrue H.tells → Figured (Self.facts self.old) (Self.facts self.new)
+            (Self.means self.old (H.state host.old)) (Self.means self.new (H.state host.new)) (H.state host.old) (H.state host.new) moment result }
+        ensures cause { HasStoreCause (H.state host.old) (H.state host.new) result };
+
+    /// Compacts a file: ends a compaction that is under way, and then takes all turns of one over this file. Idle where
+    /// that isn't a closed file then, as where it isn't there. After each fault, also after want of memory, the store may
+    /// be used no more.
+    fn compact_file(&mut self, host: &mut H, file: u32, moment: u64) -> Result<Turned, StoreFault>
+        requires ready { IsReady (Self.facts self.old) moment }
+        requires stands { IsTrue H.tells → (Self.means self.old (H.state host.old)).stands }
+        ensures plain { Plainly (Self.facts self.old) (Self.facts self.new) moment result }
+        ensures spoilt { OnErr result ((Self.facts self.new).spoilt ≡ true) }
+        ensures draws { TakesNone (Self.facts self.old) (Self.facts self.new) result }
+        ensures told { IsTrue H.tells → CompactedFile file (Self.facts self.old) (Self.facts self.new)
             (Self.means self.old (H.state host.old)) (Self.means self.new (H.state host.new)) (H.state host.old) (H.state host.new) moment result }
         ensures cause { HasStoreCause (H.state host.old) (H.state host.new) result };
 }
