@@ -1,11 +1,11 @@
 // Reading the records of a data file one after another.
-ghost use Rattle.std.specs.Prelude.{◌≡◌, IsTrue, IfOk, IfSome, OnOk, IsErrOf, false};
+ghost use Rattle.std.specs.Prelude.{◌≡◌, ◌<◌, IsTrue, IfOk, IfSome, OnOk, IsErrOf, false};
 ghost use Rattle.cache_model.specs.declared.faults.StoreFault.TheVariants as fault;
 ghost use Rattle.cache_model.specs.declared.faults.Spent.{Spent};
 ghost use Rattle.cache_model.specs.Files.{IsFileName, bytes_in};
 ghost use Rattle.cache_disk.specs.Calls.{HasStoreCause};
 ghost use Rattle.record_format.specs.Meaning.{own_item};
-ghost use Rattle.data_file.specs.Scanning.{IsGiven, IsScanOf, is_spoilt, scanned_name};
+ghost use Rattle.data_file.specs.Scanning.{IsGiven, IsScanOf, is_spoilt, left_of, scanned_name};
 ghost use Rattle.compactor.specs.Passing.{Passes};
 ghost use Rattle.compactor.specs.Recounting.{is_record};
 
@@ -33,6 +33,7 @@ pub fn next_record<H: Host>(scan: &mut Scan, host: &mut H) -> Result<Option<Scan
     ensures sound { OnOk result (is_spoilt scan.new ≡ false) }
     ensures limits { IfOk result (λ found. IfSome found (IsGiven (scanned_name scan.old))) }
     ensures record { IfOk result (λ found. IfSome found (λ one. IsTrue (is_record (own_item one.item)))) }
+    ensures goes { IfOk result (λ found. IfSome found (λ one. left_of scan.new < left_of scan.old)) }
     ensures told { IsTrue H.tells → Passes scan.old scan.new (H.state host.old) (H.state host.new) result }
     ensures spent { (spent : Spent) → IsErrOf result (fault.Spent spent) → ⊥ }
     ensures cause { HasStoreCause (H.state host.old) (H.state host.new) result }

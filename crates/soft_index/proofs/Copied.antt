@@ -238,6 +238,8 @@ module _ (key : List ℕ) (from : Place) (gone : Bool) (spelled : List ℕ) (mom
         empties = λ x y. (λ z. z, λ z. z);
         room = λ x y. (subst (λ (n : ℕ). MakesRoom n x y) limit, subst (λ (n : ℕ). MakesRoom n x y) (sym limit));
         steps = λ files kind turned x y. (λ z. z, λ z. z);
+        compacts = λ files mid file turned turns x y. (λ z. z, λ z. z);
+        turns = λ files mid file rows. refl;
         counts = λ files figures x y. (λ z. z, λ z. z);
       };
       usable = λ unspoilt. let no : true ≡ false = sym spoilt ∙ unspoilt in cc;

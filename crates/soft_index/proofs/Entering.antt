@@ -290,6 +290,8 @@ module _ (key : List ℕ) (place : Place) (gone : Bool) (proper : Kept → Item 
       empties = λ a b. (λ x. x, λ x. x);
       room = λ a b. (subst (λ (n : ℕ). MakesRoom n a b) entered_limit, subst (λ (n : ℕ). MakesRoom n a b) (sym entered_limit));
       steps = λ files kind turned a b. (λ x. x, λ x. x);
+      compacts = λ files mid file turned turns a b. (λ x. x, λ x. x);
+      turns = λ files mid file rows. refl;
       counts = λ files figures a b. (λ x. x, λ x. x);
     };
     usable = λ unspoilt. entered_usable;

@@ -6,6 +6,7 @@ pub mod Copied
 pub mod Counted
 pub mod Counting
 pub mod Emptied
+pub mod Ending
 pub mod Entering
 pub mod Growing
 pub mod Images
@@ -30,6 +31,7 @@ pub mod Taken
 pub mod There
 pub mod Turned
 pub mod Turning
+pub mod Whole
 pub mod Without
 pub mod Written
 pub mod Carrying

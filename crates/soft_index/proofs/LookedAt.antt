@@ -179,6 +179,8 @@ looks_plain S T moment x looks latest sync =
         empties = λ a b. (λ x. x, λ x. x);
         room = λ a b. (subst (λ (n : ℕ). MakesRoom n a b) limit, subst (λ (n : ℕ). MakesRoom n a b) (sym limit));
         steps = λ files kind turned a b. (λ x. x, λ x. x);
+        compacts = λ files mid file turned turns a b. (λ x. x, λ x. x);
+        turns = λ files mid file rows. refl;
         counts = λ files figures a b. (λ x. x, λ x. x);
       };
       usable = looks.usable;

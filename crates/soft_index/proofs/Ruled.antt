@@ -11,7 +11,7 @@ use Rattle.cache_model.specs.declared.faults.StoreFault.{StoreFault}
 use Rattle.cache_disk.specs.State.{HostState}
 use Rattle.store_trait.specs.Meaning.{Reading, Content, read_in, key_of, changed, StoreFacts, StoreState}
 use Rattle.store_trait.specs.Keeping.{Keeps, IsOnly, IsSettled, IsKept, IsKeptAtMarks}
-use Rattle.store_trait.specs.Calls.{Acts, Plainly, DrawsNone, DrawsOne, DrawsBy, IsAnswer, Walked, Written, SyncedStore, Stepped, Figured, known_bytes}
+use Rattle.store_trait.specs.Calls.{Acts, Plainly, DrawsNone, DrawsOne, DrawsBy, IsAnswer, Walked, Written, SyncedStore, Stepped, CompactedFile, Figured, known_bytes}
 use Rattle.store_trait.proofs.Alike.{alike_weaker}
 use Rattle.store_trait.proofs.Runs.{old_weaker, new_weaker, old_whole_weaker, new_whole_weaker}
 use Rattle.std.specs.Fn.{Shared}
@@ -67,6 +67,8 @@ module _ (f g : StoreFacts) (u v : Type 0) (forgets : List ℕ → Type 0)
       empties = plain.same.empties;
       room = plain.same.room;
       steps = plain.same.steps;
+      compacts = plain.same.compacts;
+      turns = plain.same.turns;
       counts = plain.same.counts;
     };
     usable = λ unspoilt. usable (plain.usable unspoilt);
@@ -166,6 +168,23 @@ module _ (f g : StoreFacts) (u v : Type 0) (forgets : List ℕ → Type 0)
       kept (Err e) is = tt
 
       marked : (given : Result (ℕ × ℕ × ℕ) StoreFault) → OnOk given (IsKeptAtMarks f b.turn old new) → OnOk given (IsKeptAtMarks before b.turn old new)
+      marked (Ok x) is = λ key r m may. alike_weaker (f.forgets key) (forgets key) m (read_in new.content key) (read_in old.content key) (few key) (is key r m may)
+      marked (Err e) is = tt
+
+  pub compacted_ruled : (file : ℕ) (old new : StoreState) (a b : HostState) (moment : ℕ) (result : Result Turned StoreFault) → CompactedFile file f g old new a b moment result → CompactedFile file before after old new a b moment result
+  compacted_ruled file old new a b moment result compacted = record {
+    acts = acts_ruled old new a b moment old.content result compacted.acts;
+    content = kept result compacted.content;
+    marks = marked result compacted.marks;
+    made = compacted.made;
+    parts = compacted.parts;
+  }
+    where
+      kept : (given : Result Turned StoreFault) → OnOk given (IsKept f moment old.content new.content) → OnOk given (IsKept before moment old.content new.content)
+      kept (Ok x) is = λ key. alike_weaker (f.forgets key) (forgets key) moment (read_in new.content key) (read_in old.content key) (few key) (is key)
+      kept (Err e) is = tt
+
+      marked : (given : Result Turned StoreFault) → OnOk given (IsKeptAtMarks f b.turn old new) → OnOk given (IsKeptAtMarks before b.turn old new)
       marked (Ok x) is = λ key r m may. alike_weaker (f.forgets key) (forgets key) m (read_in new.content key) (read_in old.content key) (few key) (is key r m may)
       marked (Err e) is = tt
 

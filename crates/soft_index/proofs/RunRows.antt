@@ -1,5 +1,5 @@
 -- How the turns of a compaction move the parts.
-use Rattle.std.proofs.Common.{◌≡◌, inl, inr, ℕ, ◌+◌, ◌<◌, true, false, List, [], ◌∷◌, ◌++◌, Option, Some, None, refl, sym, ◌∙◌, ap, subst, arith}
+use Rattle.std.proofs.Common.{◌≡◌, inl, inr, ℕ, ◌+◌, ◌≤◌, ◌<◌, Bool, true, false, List, [], ◌∷◌, ◌++◌, Option, Some, None, IsSome, refl, sym, ◌∙◌, ap, subst, arith}
 use Rattle.std.specs.Prelude.{length, map, min, if◌then◌else◌}
 use Rattle.std.proofs.lemmas.List.{length-append, length-map}
 use Rattle.std.proofs.lemmas.List.Sums.{length-filter}
@@ -130,3 +130,14 @@ first_rows limit threshold count q c files run next a b counted candidate begun 
       action = subst (λ (d : Option ℕ). TakesAction limit run.file (counted_records files run.file) (turns_done run) rows.0 d rows.2 rows.3 (run_of next)) (sym current)
           (subst (λ (n : ℕ). TakesAction limit run.file n (turns_done run) rows.0 rows.1 rows.2 rows.3 (run_of next)) counted rows.6);
     }
+
+-- no more turns were done than one for each record, and one for the stamp
+pub done_within : (run : Run) (S : LogStore) (files : Image) (frames : List Frame) (records : List Item) → RunStands run S files frames records → turns_done run ≤ counted_records files run.file + 1
+done_within run S files frames records is = by run.is_stamped refl
+  where
+    by : (stamped : Bool) → run.is_stamped ≡ stamped → turns_done run ≤ counted_records files run.file + 1
+    by false on = omega (arith, turns_before run on, records_split run S files frames records is on)
+    by true on =
+        let done : turns_done run ≡ length run.looked.items + 1 = ap (λ t. length run.looked.items + (if t then 1 else 0)) on in
+        let all : counted_records files run.file ≡ length run.looked.items = records_length files run.file ∙ ap (λ (l : List (ℕ × Item)). length l) (is.stamped on).0 ∙ looked_length run S files frames records is in
+        omega (arith, done, all)

@@ -10,16 +10,16 @@ use Rattle.cache_disk.specs.State.{HostState}
 use Rattle.compactor.specs.Recounting.{counted_records, is_record}
 use Rattle.store_trait.specs.Meaning.{Row}
 use Rattle.store_trait.specs.Keeping.{SameStore}
-use Rattle.store_trait.specs.Calls.{Plainly, Stepped}
+use Rattle.store_trait.specs.Calls.{Acts, CompactedFile, Plainly, Stepped}
 use Rattle.store_trait.proofs.Runs.{kept_same}
 use Rattle.soft_index.specs.declared.compacting.CompactingStore.{CompactingStore}
 use Rattle.soft_index.specs.declared.log_store.LogStore.{LogStore}
 use Rattle.soft_index.specs.declared.running.Run.{Run}
 use Rattle.soft_index.specs.Compacting.{CompactsBy, with_run}
-use Rattle.soft_index.specs.Running.{ActsRows, HasBegun, HoldsRun, MayGoOn, run_of, spoil}
+use Rattle.soft_index.specs.Running.{ActsOr, ActsRows, HasBegun, HoldsRun, MayGoOn, run_of, spoil}
 use Rattle.soft_index.specs.Steps.{StepsIn}
 use Rattle.soft_index.specs.Store.{content_of, log_facts}
-use Rattle.soft_index.specs.Turns.{HasGoneOn, HasTurned, run_facts, run_means}
+use Rattle.soft_index.specs.Turns.{HasCompacted, HasGoneOn, HasTurned, run_facts, run_means}
 use Rattle.soft_index.proofs.Carrying.{limit_same, same_run}
 use Rattle.soft_index.proofs.Chaining.{acts_chain, acts_err, acts_ok, content_chain}
 use Rattle.soft_index.proofs.RunRows.{first_rows, turn_rows}
@@ -44,6 +44,8 @@ plain_turned S T moment result threshold may plain =
           λ is. (same.steps files kind turned a b).0 (subst (λ (t : ℕ). StepsIn n t files kind turned a b) threshold is),
           λ is. subst (λ (t : ℕ). StepsIn n t files kind turned a b) (sym threshold) ((same.steps files kind turned a b).1 is),
         );
+        compacts = same.compacts;
+        turns = same.turns;
         counts = same.counts;
       };
       usable = λ sound. (plain.usable sound, may);
@@ -120,22 +122,41 @@ turned_idle S M a b moment none begun =
 pub turned_failed : (S T : CompactingStore) (a b : HostState) (moment : ℕ) (f : StoreFault) → HasBegun S.threshold S.log T.log a b moment (Err f) → HasTurned S T a b moment (Err f)
 turned_failed S T a b moment f begun = record { acts = acts_err {Q = Option Run} {R = Turned} S.log T.log a b moment f begun.acts; content = tt; held = tt; rows = tt }
 
--- as a step of the store
+-- as a call of the store
+pub run_acts : {R : Type 0} (S T : CompactingStore) (a b : HostState) (moment : ℕ) (x : R) → HoldsRun T.run T.log b → ActsOr {R = R} S.log T.log a b moment (Ok x)
+    → Acts {T = R} (run_facts S) (run_facts T) (run_means S a) (run_means T b) a b moment (content_of S.log a.files) (Ok x)
+run_acts S T a b moment x held acts = record {
+  stands = λ sound. held;
+  others = acts.others;
+  silent = acts.silent;
+  keeps = record { past = acts.keeps.past; since = acts.keeps.since; past_whole = acts.keeps.past_whole; since_whole = acts.keeps.since_whole };
+  opens = record { past = acts.opens.past; since = acts.opens.since };
+  sound = acts.sound;
+  undamaged = acts.undamaged;
+  spent = acts.spent;
+  refused = λ err sound. cc;
+  room = λ err sound. cc;
+}
+
+pub run_acts_fault : {R : Type 0} (S T : CompactingStore) (a b : HostState) (moment : ℕ) (f : StoreFault) → ActsOr {R = R} S.log T.log a b moment (Err f)
+    → Acts {T = R} (run_facts S) (run_facts (record T { log = spoil T.log })) (run_means S a) (run_means (record T { log = spoil T.log }) b) a b moment (content_of S.log a.files) (Err f)
+run_acts_fault S T a b moment f acts = record {
+  stands = λ sound. let no : true ≡ false = sound in cc;
+  others = acts.others;
+  silent = acts.silent;
+  keeps = record { past = acts.keeps.past; since = acts.keeps.since; past_whole = acts.keeps.past_whole; since_whole = acts.keeps.since_whole };
+  opens = record { past = acts.opens.past; since = acts.opens.since };
+  sound = acts.sound;
+  undamaged = acts.undamaged;
+  spent = acts.spent;
+  refused = λ err sound. let no : true ≡ false = sound in cc;
+  room = λ err sound. let no : true ≡ false = sound in cc;
+}
+
 pub stepped_turn : (S T : CompactingStore) (a b : HostState) (moment : ℕ) (turned : Turned) → HasTurned S T a b moment (Ok turned)
     → Stepped Compact (run_facts S) (run_facts T) (run_means S a) (run_means T b) a b moment (Ok turned)
 stepped_turn S T a b moment turned is = record {
-  acts = record {
-    stands = λ sound. is.held;
-    others = is.acts.others;
-    silent = is.acts.silent;
-    keeps = record { past = is.acts.keeps.past; since = is.acts.keeps.since; past_whole = is.acts.keeps.past_whole; since_whole = is.acts.keeps.since_whole };
-    opens = record { past = is.acts.opens.past; since = is.acts.opens.since };
-    sound = is.acts.sound;
-    undamaged = is.acts.undamaged;
-    spent = is.acts.spent;
-    refused = λ err sound. cc;
-    room = λ err sound. cc;
-  };
+  acts = run_acts {R = Turned} S T a b moment turned is.held is.acts;
   content = kept_same (run_facts S) moment (content_of S.log a.files) (content_of T.log b.files) is.content;
   marks = λ key r m may. inl (is.content key);
   parts = is.rows;
@@ -143,20 +164,18 @@ stepped_turn S T a b moment turned is = record {
 
 pub stepped_fault : (S T : CompactingStore) (a b : HostState) (moment : ℕ) (f : StoreFault) → HasTurned S T a b moment (Err f)
     → Stepped Compact (run_facts S) (run_facts (record T { log = spoil T.log })) (run_means S a) (run_means (record T { log = spoil T.log }) b) a b moment (Err f)
-stepped_fault S T a b moment f is = record {
-  acts = record {
-    stands = λ sound. let no : true ≡ false = sound in cc;
-    others = is.acts.others;
-    silent = is.acts.silent;
-    keeps = record { past = is.acts.keeps.past; since = is.acts.keeps.since; past_whole = is.acts.keeps.past_whole; since_whole = is.acts.keeps.since_whole };
-    opens = record { past = is.acts.opens.past; since = is.acts.opens.since };
-    sound = is.acts.sound;
-    undamaged = is.acts.undamaged;
-    spent = is.acts.spent;
-    refused = λ err sound. let no : true ≡ false = sound in cc;
-    room = λ err sound. let no : true ≡ false = sound in cc;
-  };
-  content = tt;
-  marks = tt;
-  parts = tt;
+stepped_fault S T a b moment f is = record { acts = run_acts_fault {R = Turned} S T a b moment f is.acts; content = tt; marks = tt; parts = tt }
+
+pub compacted_file : (file : ℕ) (S T : CompactingStore) (a b : HostState) (moment : ℕ) (turned : Turned) → HasCompacted file S T a b moment (Ok turned)
+    → CompactedFile file (run_facts S) (run_facts T) (run_means S a) (run_means T b) a b moment (Ok turned)
+compacted_file file S T a b moment turned is = record {
+  acts = run_acts {R = Turned} S T a b moment turned is.held is.acts;
+  content = kept_same (run_facts S) moment (content_of S.log a.files) (content_of T.log b.files) is.content;
+  marks = λ key r m may. inl (is.content key);
+  made = is.made;
+  parts = is.parts;
 }
+
+pub compacted_fault : (file : ℕ) (S T : CompactingStore) (a b : HostState) (moment : ℕ) (f : StoreFault) → HasCompacted file S T a b moment (Err f)
+    → CompactedFile file (run_facts S) (run_facts (record T { log = spoil T.log })) (run_means S a) (run_means (record T { log = spoil T.log }) b) a b moment (Err f)
+compacted_fault file S T a b moment f is = record { acts = run_acts_fault {R = Turned} S T a b moment f is.acts; content = tt; marks = tt; made = is.made; parts = tt }

@@ -1,9 +1,9 @@
 -- How compaction and counting move the parts of the store.
-use Rattle.std.specs.Prelude.{◌≡◌, ◌⊎◌, ℕ, ◌+◌, ◌<◌, min, List, [], ◌∷◌, map, Option, Some, None, IsSome}
+use Rattle.std.specs.Prelude.{◌≡◌, ◌⊎◌, ℕ, ◌+◌, ◌-◌, ◌<◌, min, List, [], ◌∷◌, map, Option, Some, None, IsSome}
 use Rattle.cache_model.specs.declared.replies.Turned.{Turned}
 use Rattle.cache_model.specs.declared.replies.Turned.TheVariants.{Done, Idle}
 use Rattle.cache_model.specs.Files.{Image}
-use Rattle.compactor.specs.Recounting.{IsCandidateOf, IsRecount, counted_records}
+use Rattle.compactor.specs.Recounting.{IsCandidateOf, IsRecount, IsClosedFile, counted_records}
 use Rattle.store_trait.specs.Meaning.{Row}
 
 -- the file under compaction and the turns done, where there is one
@@ -65,6 +65,27 @@ pub record TakesTurn (limit threshold : ℕ) (files : Image) (a b : List Row) : 
 abbrev pub CompactsBy : ℕ → ℕ → Image → Turned → List Row → List Row → Type 0
 CompactsBy limit threshold files Done a b = TakesTurn limit threshold files a b
 CompactsBy limit threshold files Idle a b = (queued : ℕ) × (current : Option ℕ) × (a ≡ row_with queued current None) × IsCandidateOf files current threshold None × (b ≡ row_with 0 current None)
+
+-- how many turns end a run that is under way
+abbrev pub turns_left : Image → Run → ℕ
+turns_left files None = 0
+turns_left files (Some run) = counted_records files run.0 + 2 - run.1
+
+-- the current file behind the turns that end a run: there is one, unless the file alone was left to be taken away
+abbrev pub IsCurrentBehind : Image → Run → Option ℕ → Option ℕ → Type 0
+IsCurrentBehind files None current now = now ≡ current
+IsCurrentBehind files (Some run) current now = IsSome now ⊎ ((run.1 ≡ counted_records files run.0 + 1) × (now ≡ current))
+
+-- How the compaction of one file moves the parts, in so many turns: it ends a run that is under way, behind which the files
+-- read so, and empties the queue. It is idle exactly where the file isn't a closed one then; else it takes all turns of a
+-- run over it.
+abbrev pub CompactsFile : ℕ → Image → Image → ℕ → Turned → ℕ → List Row → List Row → Type 0
+CompactsFile limit files mid file Done turns a b =
+    (queued : ℕ) × (current : Option ℕ) × (run : Run) × (then : Option ℕ) × (now : Option ℕ) × (a ≡ row_with queued current run) × IsCurrentBehind files run current then × IsClosedFile mid then file
+    × (turns ≡ turns_left files run + (counted_records mid file + 2)) × IsSome now × (b ≡ row_with (min (counted_records mid file) limit) now None)
+CompactsFile limit files mid file Idle turns a b =
+    (queued : ℕ) × (current : Option ℕ) × (run : Run) × (then : Option ℕ) × (a ≡ row_with queued current run) × IsCurrentBehind files run current then × (IsClosedFile mid then file → ⊥)
+    × (turns ≡ turns_left files run) × (b ≡ row_with 0 then None)
 
 -- how counting moves the parts: the queue is emptied, and the figures are those of a recount
 abbrev pub CountsBy : Image → ℕ × ℕ × ℕ → List Row → List Row → Type 0

@@ -14,10 +14,10 @@ pub use Rattle.rebuild.specs.Rebuilt.{IsRead}
 use Rattle.store_trait.specs.Meaning.{Numbers, Row, StoreFacts, StoreState, read_in}
 use Rattle.soft_index.specs.declared.log_store.LogStore.{LogStore}
 use Rattle.soft_index.specs.declared.soft_index.SoftIndex.{SoftIndex}
-use Rattle.soft_index.specs.Compacting.{ByRun, CountsBy, row_with}
+use Rattle.soft_index.specs.Compacting.{ByRun, CompactsFile, CountsBy, row_with}
 use Rattle.soft_index.specs.Running.{MayGoOn}
 use Rattle.soft_index.specs.Steps.{StepsIn}
-use Rattle.soft_index.specs.Turns.{run_facts, run_means}
+use Rattle.soft_index.specs.Turns.{run_facts, run_means, turns_for}
 use Rattle.soft_index.specs.Rule.{AnswersAlike, Allows, ruled}
 use Rattle.soft_index.specs.Store.{IsUsable, HasReading, MakesRoom, Queues}
 
@@ -60,4 +60,6 @@ pub record IsStarted (files : Image) (settings : Settings) (facts : StoreFacts) 
   pub empties : (a b : List Row) → facts.empties a b → b ≡ a
   pub room : (a b : List Row) → facts.room a b → ByRun (MakesRoom settings.queue) a b
   pub steps : (read : Image) (kind : StepKind) (turned : Turned) (a b : List Row) → facts.steps read kind turned a b → StepsIn settings.queue settings.compact_below read kind turned a b
+  pub compacts : (read mid : Image) (file : ℕ) (turned : Turned) (turns : ℕ) (a b : List Row) → facts.compacts read mid file turned turns a b → CompactsFile settings.queue read mid file turned turns a b
+  pub turns : (read mid : Image) (file : ℕ) (rows : List Row) → facts.turns read mid file rows ≡ turns_for read mid file rows
   pub counts : (read : Image) (figures : ℕ × ℕ × ℕ) (a b : List Row) → facts.counts read figures a b → CountsBy read figures a b

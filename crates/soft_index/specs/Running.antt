@@ -3,15 +3,15 @@ use Rattle.std.specs.Prelude.{◌≡◌, ◌⊎◌, ℕ, ◌+◌, ◌≤◌, tru
 use Rattle.cache_model.specs.declared.faults.StoreFault.{StoreFault}
 use Rattle.cache_model.specs.Files.{Image, IsFileName, bytes_in, file_in}
 use Rattle.cache_model.specs.Items.{Item, end}
-use Rattle.cache_model.specs.DataFiles.{Frame, counted_items}
+use Rattle.cache_model.specs.DataFiles.{Frame, counted_items, found_in}
 use Rattle.cache_model.specs.Images.{IsNoNewer, key_of, log_name, sequence_of}
-use Rattle.cache_disk.specs.State.{HostState}
+use Rattle.cache_disk.specs.State.{HostState, Stands}
 use Rattle.data_file.proofs.Frame.{placed_of}
 use Rattle.data_file.specs.declared.scan.Scan.{Scan}
-use Rattle.data_file.specs.Scanning.{IsScanOf, is_spoilt, scanned_name}
+use Rattle.data_file.specs.Scanning.{IsScanOf, is_spoilt, left_of, rest_of, scanned_name}
 use Rattle.compactor.specs.Counting.{Counts, IsNewestBy}
 use Rattle.compactor.specs.Passing.{IsSoundRest, records_left}
-use Rattle.compactor.specs.Recounting.{IsCandidateOf, counted_records, is_record}
+use Rattle.compactor.specs.Recounting.{IsCandidateOf, IsClosedFile, counted_records, is_record}
 use Rattle.store_trait.specs.Meaning.{Row}
 use Rattle.store_trait.specs.Keeping.{SameContent}
 use Rattle.store_trait.specs.Calls.{Acts}
@@ -42,12 +42,23 @@ abbrev pub MayGoOn : Option Run → Type 0
 MayGoOn None = Unit {0}
 MayGoOn (Some run) = IsUsableRun run
 
+-- how many actions of a compaction are left at the most, whatever the host tells
+abbrev pub due_of : Option Run → ℕ
+due_of None = 0
+due_of (Some run) = 1 + (if run.is_stamped then 0 else 1 + left_of run.scan)
+
 -- It was begun over a file.
 pub record IsBegun (file : ℕ) (run : Run) : Type 0 where
   pub usable : IsUsableRun run
   pub file_is : run.file ≡ file
   pub none : run.looked.items ≡ []
   pub unstamped : run.is_stamped ≡ false
+
+-- a file isn't there, or it is there and a compaction has all of it to read
+abbrev pub BeginsOn : Image → ℕ → Option Run → Type 0
+BeginsOn files file None = file_in files (log_name file) ≡ None
+BeginsOn files file (Some run) =
+    IsSome (file_in files (log_name file)) × IsScanOf run.scan (bytes_in files (log_name file)) × (rest_of run.scan (bytes_in files (log_name file)) ≡ found_in (bytes_in files (log_name file)))
 
 -- a record in a file is outdone: another file has one of its key that is no older
 abbrev pub IsOutdoneIn : Counts → List ℕ → ℕ → ℕ → Item → Type 0
@@ -144,12 +155,24 @@ abbrev pub ActsRows : ℕ → ℕ → Run → Option Run → List Row → List R
 ActsRows limit count run next a b =
     (waiting : ℕ) × (current : Option ℕ) × (left : ℕ) × (now : Option ℕ) × (a ≡ row_of waiting current) × (b ≡ row_of left now) × TakesAction limit run.file count (turns_done run) waiting current left now (run_of next)
 
+-- the file of a compaction that goes on stays as it reads
+abbrev pub KeepsFile : Run → Option Run → HostState → HostState → Type 0
+KeepsFile run None a b = Unit {0}
+KeepsFile run (Some next) a b = file_in b.files (log_name run.file) ≡ file_in a.files (log_name run.file)
+
 -- An action of a compaction: the content stays, and the compaction goes on as it says, or has ended.
 pub record HasActed (run : Run) (S T : LogStore) (a b : HostState) (moment : ℕ) (result : Result (Option Run) StoreFault) : Type 0 where
   pub acts : ActsOr S T a b moment result
   pub content : OnOk result (SameContent (content_of S a.files) (content_of T b.files))
   pub held : IfOk result (λ next. HoldsRun next T b)
+  pub stays : IfOk result (λ next. KeepsFile run next a b)
   pub rows : IfOk result (λ next. ActsRows S.parts.requests.limit (counted_records a.files run.file) run next (log_facts S).parts (log_facts T).parts)
+
+-- how the beginning of a compaction of a file moves the parts of the log: the queue is emptied, and the file is a closed one,
+-- or there is no compaction
+abbrev pub BeginsOverRows : Image → ℕ → Option Run → List Row → List Row → Type 0
+BeginsOverRows files file None a b = (queued : ℕ) × (current : Option ℕ) × (a ≡ row_of queued current) × (b ≡ row_of 0 current) × (IsClosedFile files current file → ⊥)
+BeginsOverRows files file (Some run) a b = (queued : ℕ) × (current : Option ℕ) × (a ≡ row_of queued current) × (b ≡ row_of 0 current) × IsClosedFile files current file × (run.file ≡ file) × (turns_done run ≡ 0)
 
 -- how the beginning of a compaction moves the parts of the log: the queue is emptied, and the file is the candidate, or there
 -- is none
@@ -164,3 +187,11 @@ pub record HasBegun (threshold : ℕ) (S T : LogStore) (a b : HostState) (moment
   pub held : IfOk result (λ next. HoldsRun next T b)
   pub files : (n : ℕ) → file_in b.files (log_name n) ≡ file_in a.files (log_name n)
   pub rows : IfOk result (λ next. BeginsRows threshold a.files next (log_facts S).parts (log_facts T).parts)
+
+-- A compaction of a file was begun, or it isn't a closed one. Nothing was written.
+pub record HasBegunOver (file : ℕ) (S T : LogStore) (a b : HostState) (moment : ℕ) (result : Result (Option Run) StoreFault) : Type 0 where
+  pub acts : ActsOr S T a b moment result
+  pub content : OnOk result (SameContent (content_of S a.files) (content_of T b.files))
+  pub held : IfOk result (λ next. HoldsRun next T b)
+  pub still : Stands a b
+  pub rows : IfOk result (λ next. BeginsOverRows a.files file next (log_facts S).parts (log_facts T).parts)

@@ -205,6 +205,8 @@ log_facts store = record {
   empties = λ a b. b ≡ a;
   room = λ a b. MakesRoom store.parts.requests.limit a b;
   steps = λ files kind turned a b. StepsBy kind turned a b;
+  compacts = λ files mid file turned turns a b. (turned ≡ Idle) × (turns ≡ 0) × (b ≡ a);
+  turns = λ files mid file rows. 0;
   counts = CountsBy;
 }
 

@@ -1,5 +1,5 @@
 // A store over the data files of a directory, which compacts them.
-ghost use Rattle.std.specs.Prelude.{◌≡◌, List, IsTrue, IfOk, IsErrOf, OnOk, None, Some};
+ghost use Rattle.std.specs.Prelude.{◌≡◌, ◌<◌, List, IsTrue, IfOk, IsErrOf, OnOk, None, Some};
 ghost use Rattle.cache_model.specs.declared.commands.StepKind.TheVariants.{Compact};
 ghost use Rattle.cache_model.specs.declared.replies.Turned.TheVariants.{Done};
 ghost use Rattle.cache_model.specs.declared.faults.StoreFault.TheVariants as fault;
@@ -13,9 +13,9 @@ ghost use Rattle.cache_disk.specs.Calls.{HasStoreCause};
 ghost use Rattle.store_trait.specs.Meaning.{IsChange};
 ghost use Rattle.store_trait.specs.Calls.{DrawsBy, DrawsNone, DrawsOne, IsReady, Plainly, Stepped, Written};
 ghost use Rattle.soft_index.specs.Store.{AreInRange, IsFirstDamageOf, IsOpened, IsSpentBy, IsWritten, LogStands, log_facts, spent_by};
-ghost use Rattle.soft_index.specs.Turns.{HasGoneOn, HasTurned, TurnMakes, run_facts, run_means};
+ghost use Rattle.soft_index.specs.Turns.{HasCompacted, HasEnded, HasGoneOn, HasTurned, TakesNoNumber, TurnMakes, run_facts, run_means};
 ghost use Rattle.soft_index.specs.Copied.{MakesFile};
-ghost use Rattle.soft_index.specs.Running.{HasBegun, HoldsRun, IsUsableRun, MayGoOn};
+ghost use Rattle.soft_index.specs.Running.{HasBegun, HasBegunOver, HoldsRun, IsUsableRun, MayGoOn, due_of};
 ghost use Rattle.soft_index.specs.RunLaws.{run_carries, run_holds};
 
 use crate::log_store::LogStore;
@@ -139,6 +139,16 @@ impl<H: Host> FileStore<H> for CompactingStore {
     fn figures(&mut self, host: &mut H, moment: u64) -> Result<(u64, u64, u64), StoreFault> {
         self.log.figures(host, moment)
     }
+
+    fn compact_file(&mut self, host: &mut H, file: u32, moment: u64) -> Result<Turned, StoreFault> {
+        match compact_whole(self, host, file, moment) {
+            Ok(turned) => Ok(turned),
+            Err(fault) => {
+                self.log.parts.spoilt = true;
+                Err(fault)
+            }
+        }
+    }
 }
 
 // The compaction of the candidate, of which nothing was read yet. None where no file is one. The queue is emptied first.
@@ -168,7 +178,7 @@ fn begin_next<H: Host>(
         return Ok(None);
     };
     match begin(alloc, host, file, name) {
-        Ok(run) => Ok(Some(run)),
+        Ok(begun) => Ok(begun),
         Err(fault) => {
             store.parts.spoilt = true;
             Err(fault)
@@ -192,6 +202,7 @@ fn go_on<H: Host>(
     ensures makes { MakesFile store.old.log store.new.log result }
     ensures goes { (store.new.threshold ≡ store.old.threshold) × MayGoOn store.new.run }
     ensures done { IfOk result (λ turned. turned ≡ Done) }
+    ensures shrinks { OnOk result (due_of store.new.run < due_of (Some run)) }
     ensures told { IsTrue H.tells → HasGoneOn run store.old store.new (H.state host.old) (H.state host.new) moment result }
     ensures cause { HasStoreCause (H.state host.old) (H.state host.new) result }
 {
@@ -265,5 +276,93 @@ fn take_turn<H: Host>(
             store.log.parts.spoilt = true;
             Err(fault)
         }
+    }
+}
+
+// Ends the compaction that is under way, where one is. After a fault the store may not be spoilt.
+fn end_run<H: Host>(
+    store: &mut CompactingStore,
+    host: &mut H,
+    moment: u64,
+) -> Result<(), StoreFault>
+    requires ready { IsReady (run_facts store.old) moment }
+    requires stands { IsTrue H.tells → (run_means store.old (H.state host.old)).stands }
+    ensures plain { Plainly (log_facts store.old.log) (log_facts store.new.log) moment result }
+    ensures goes { (store.new.threshold ≡ store.old.threshold) × MayGoOn store.new.run }
+    ensures next { TakesNoNumber store.old.log store.new.log result }
+    ensures ended { OnOk result (store.new.run ≡ None) }
+    ensures told { IsTrue H.tells → HasEnded store.old store.new (H.state host.old) (H.state host.new) moment result }
+    ensures cause { HasStoreCause (H.state host.old) (H.state host.new) result }
+{
+    store.log.latest = moment;
+    while let Some(run) = store.run.take() {
+        if let Err(fault) = go_on(store, host, run, moment) {
+            return Err(fault);
+        }
+    }
+    Ok(())
+}
+
+// The compaction of a closed file, of which nothing was read yet. None where the file isn't one. The queue is emptied first.
+fn begin_over<H: Host>(
+    store: &mut LogStore,
+    host: &mut H,
+    alloc: Global,
+    file: u32,
+    moment: u64,
+) -> Result<Option<Run>, StoreFault>
+    requires ready { IsReady (log_facts store.old) moment }
+    requires stands { IsTrue H.tells → HoldsRun None store.old (H.state host.old) }
+    ensures plain { Plainly (log_facts store.old) (log_facts store.new) moment result }
+    ensures draws { DrawsNone (log_facts store.old) (log_facts store.new) }
+    ensures run { IfOk result MayGoOn }
+    ensures told { IsTrue H.tells → HasBegunOver file store.old store.new (H.state host.old) (H.state host.new) moment result }
+    ensures cause { HasStoreCause (H.state host.old) (H.state host.new) result }
+{
+    if let Err(fault) = empty(store, host, moment) {
+        return Err(fault);
+    }
+    if store.parts.log.current() == Some(file) {
+        return Ok(None);
+    }
+    let Some(name) = data_file_name(file, store.parts.log.next_file()) else {
+        return Ok(None);
+    };
+    match begin(alloc, host, file, name) {
+        Ok(begun) => Ok(begun),
+        Err(fault) => {
+            store.parts.spoilt = true;
+            Err(fault)
+        }
+    }
+}
+
+// Compacts a file whole, behind the compaction that is under way. After a fault the store may not be spoilt.
+fn compact_whole<H: Host>(
+    store: &mut CompactingStore,
+    host: &mut H,
+    file: u32,
+    moment: u64,
+) -> Result<Turned, StoreFault>
+    requires ready { IsReady (run_facts store.old) moment }
+    requires stands { IsTrue H.tells → (run_means store.old (H.state host.old)).stands }
+    ensures plain { Plainly (run_facts store.old) (run_facts store.new) moment result }
+    ensures next { TakesNoNumber store.old.log store.new.log result }
+    ensures told { IsTrue H.tells → HasCompacted file store.old store.new (H.state host.old) (H.state host.new) moment result }
+    ensures cause { HasStoreCause (H.state host.old) (H.state host.new) result }
+{
+    if let Err(fault) = end_run(store, host, moment) {
+        return Err(fault);
+    }
+    match begin_over(&mut store.log, host, store.alloc, file, moment) {
+        Ok(Some(run)) => {
+            store.run = Some(run);
+            match end_run(store, host, moment) {
+                Ok(()) => Ok(Turned::Done),
+                Err(fault) => Err(fault),
+            }
+        }
+        Ok(None) => Ok(Turned::Idle),
+        Err(fault) => Err(fault),
     }
 }

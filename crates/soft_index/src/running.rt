@@ -1,16 +1,16 @@
 // A compaction of one data file, turn by turn.
-ghost use Rattle.std.specs.Prelude.{◌≡◌, ℕ, ◌+◌, ◌<◌, ◌≤◌, List, [], ◌∷◌, length, min, true, false, IsTrue, IfOk, OnErr, OnOk, IsErrOf, MatchOption, None, Some};
+ghost use Rattle.std.specs.Prelude.{◌≡◌, ℕ, ◌+◌, ◌<◌, ◌≤◌, List, [], ◌∷◌, length, min, true, false, IsTrue, IfOk, IfSome, OnErr, OnOk, IsErrOf, MatchOption, None, Some};
 ghost use Rattle.cache_model.specs.declared.faults.StoreFault.TheVariants as fault;
 ghost use Rattle.cache_model.specs.declared.faults.Spent.{Spent};
 ghost use Rattle.cache_model.specs.declared.faults.Damage.{Damage};
 ghost use Rattle.cache_model.specs.Files.{IsFileName, bytes_in};
 ghost use Rattle.cache_model.specs.Items.{IsItem, Item};
-ghost use Rattle.cache_model.specs.DataFiles.{Frame, found_in};
+ghost use Rattle.cache_model.specs.DataFiles.{Frame};
 ghost use Rattle.cache_model.specs.Images.{key_of, log_name};
 ghost use Rattle.cache_disk.specs.State.{Stands as IsSame};
 ghost use Rattle.cache_disk.specs.Calls.{HasStoreCause};
 ghost use Rattle.record_format.specs.Meaning.{own_item};
-ghost use Rattle.data_file.specs.Scanning.{IsGiven, IsScanOf, rest_of};
+ghost use Rattle.data_file.specs.Scanning.{IsGiven};
 ghost use Rattle.append_log.specs.Current as append;
 ghost use Rattle.data_file.proofs.Frame.{placed_of};
 ghost use Rattle.compactor.specs.Counting.{IsNewestBy};
@@ -19,7 +19,7 @@ ghost use Rattle.compactor.specs.Indexing.{is_removal};
 ghost use Rattle.compactor.specs.Recounting.{IsRecounted, is_record};
 ghost use Rattle.store_trait.specs.Calls.{DrawsNone, IsReady, Plainly};
 ghost use Rattle.soft_index.specs.Copied.{MakesFile};
-ghost use Rattle.soft_index.specs.Running.{HasActed, HasLooked, HasRead, HoldsRun, IsBegun, IsStill, IsUsableRun, LooksRows, MayGoOn};
+ghost use Rattle.soft_index.specs.Running.{BeginsOn, HasActed, HasLooked, HasRead, HoldsRun, IsBegun, IsStill, IsUsableRun, LooksRows, MayGoOn, due_of};
 ghost use Rattle.soft_index.specs.Store.{Holds, LogStands, Queues, current_of, log_facts, log_means, number, writer};
 
 use crate::copying::copy;
@@ -60,29 +60,31 @@ pub(crate) fn data_file_name(number: u32, next: u32) -> Option<FileName>
     })
 }
 
-/// A compaction of a data file, of which nothing was read yet.
+/// A compaction of a data file, of which nothing was read yet. None where it isn't there.
 pub(crate) fn begin<H: Host>(
     alloc: Global,
     host: &mut H,
     file: u32,
     name: FileName,
-) -> Result<Run, StoreFault>
+) -> Result<Option<Run>, StoreFault>
     requires name { (name ≡ log_name file) × IsFileName name }
-    ensures begun { IfOk result (IsBegun file) }
+    ensures begun { IfOk result (λ begun. IfSome begun (IsBegun file)) }
     ensures still { IsTrue H.tells → IsSame (H.state host.old) (H.state host.new) }
-    ensures scans { IsTrue H.tells → IfOk result (λ run. IsScanOf run.scan (bytes_in (H.state host.old).files (log_name file)) × (rest_of run.scan (bytes_in (H.state host.old).files (log_name file)) ≡ found_in (bytes_in (H.state host.old).files (log_name file)))) }
+    ensures scans { IsTrue H.tells → IfOk result (BeginsOn (H.state host.old).files file) }
     ensures undamaged { (d : Damage) → IsErrOf result (fault.Damaged d) → ⊥ }
     ensures unspent { (s : Spent) → IsErrOf result (fault.Spent s) → ⊥ }
     ensures cause { HasStoreCause (H.state host.old) (H.state host.new) result }
 {
-    let size = host.size(name)?.unwrap_or(0);
+    let Some(size) = host.size(name)? else {
+        return Ok(None);
+    };
     let scan = Scan::new(alloc, name, size)?;
-    Ok(Run {
+    Ok(Some(Run {
         file,
         scan,
         looked: Vec::new(alloc),
         is_stamped: false,
-    })
+    }))
 }
 
 // The key of a record.
@@ -296,6 +298,7 @@ pub(crate) fn look<H: Host>(
     ensures plain { Plainly (log_facts store.old) (log_facts store.new) moment result }
     ensures makes { MakesFile store.old store.new result }
     ensures run { IfOk result MayGoOn }
+    ensures due { IfOk result (λ next. due_of next ≡ due_of (Some run)) }
     ensures told { IsTrue H.tells → (was : Run) → HoldsRun (Some was) store.old (H.state host.old) → HasRead was run (H.state host.old).files
         → records_left was.scan (bytes_in (H.state host.old).files (log_name was.file)) ≡ (one.now.place.at, own_item one.now.item) ∷ records_left run.scan (bytes_in (H.state host.old).files (log_name was.file))
         → HasActed was store.old store.new (H.state host.old) (H.state host.new) moment result }
@@ -331,6 +334,7 @@ pub(crate) fn mark<H: Host>(
     ensures plain { Plainly (log_facts store.old) (log_facts store.new) moment result }
     ensures makes { MakesFile store.old store.new result }
     ensures run { IfOk result MayGoOn }
+    ensures due { IfOk result (λ next. due_of next ≡ 1) }
     ensures told { IsTrue H.tells → (was : Run) → HoldsRun (Some was) store.old (H.state host.old) → HasRead was run (H.state host.old).files
         → records_left was.scan (bytes_in (H.state host.old).files (log_name was.file)) ≡ []
         → HasActed was store.old store.new (H.state host.old) (H.state host.new) moment result }
@@ -359,6 +363,7 @@ pub(crate) fn act<H: Host>(
     ensures plain { Plainly (log_facts store.old) (log_facts store.new) moment result }
     ensures makes { MakesFile store.old store.new result }
     ensures run { IfOk result MayGoOn }
+    ensures goes { IfOk result (λ next. due_of next < due_of (Some run)) }
     ensures told { IsTrue H.tells → HasActed run store.old store.new (H.state host.old) (H.state host.new) moment result }
     ensures cause { HasStoreCause (H.state host.old) (H.state host.new) result }
 {

@@ -158,4 +158,9 @@ impl<F: Fn(&Key) -> bool, H: Host> FileStore<H> for SoftIndex<F> {
     fn figures(&mut self, host: &mut H, moment: u64) -> Result<(u64, u64, u64), StoreFault> {
         self.log.figures(host, moment)
     }
+
+    /// It ends a compaction that is under way first.
+    fn compact_file(&mut self, host: &mut H, file: u32, moment: u64) -> Result<Turned, StoreFault> {
+        self.log.compact_file(host, file, moment)
+    }
 }

@@ -10,10 +10,12 @@ ghost use Rattle.soft_index.specs.Store.{AreInRange};
 
 mod failing;
 mod recount;
+mod tables;
 
 use crate::SoftIndex;
 use crate::tests::failing::failures_spoil;
 use crate::tests::recount::counts_hold;
+use crate::tests::tables::{LAST, LONG, MIDDLE, Row, SHORT, Session, Table, WAYS, Way, way_of};
 use cache_disk::Host;
 use cache_model::{
     Activation, Answer, Change, Entry, FileKind, FileName, Key, Mode, Prefix, Settings, StepKind,
@@ -23,158 +25,7 @@ use host_memory::MemoryHost;
 use std::alloc::Global;
 use std::process::Abort;
 use std::test::Fail;
-use store_trait::{HeapStore, Keyed, Store};
-
-/// A change of a key: a text so many times over as its value, and until when, or a removal.
-type Row = (&'static str, Option<(&'static str, usize, Option<u32>)>);
-
-/// The moment of a session, and its changes.
-type Session = (u32, [Row; 4]);
-
-/// Three keys, and the sessions that change them.
-struct Table {
-    keys: [&'static str; 3],
-    sessions: [Session; 3],
-}
-
-/// How a store is run: its settings, and how many index steps and then turns of a compaction follow each change.
-#[derive(Drop)]
-struct Way {
-    hash_bits: u32,
-    queue: usize,
-    sync_writes: bool,
-    steps: usize,
-    turns: usize,
-}
-
-/// The moment of the last session.
-const LAST: u64 = 3000;
-
-/// The first value of `c` fills a file of 4,096 bytes.
-const LONG: Table = Table {
-    keys: ["a", "b", "c"],
-    sessions: [
-        (
-            1000,
-            [
-                ("a", Some(("1", 1, None))),
-                ("b", Some(("2", 2, Some(1500)))),
-                ("a", Some(("3", 3, None))),
-                ("c", Some(("4", 4090, None))),
-            ],
-        ),
-        (
-            2000,
-            [
-                ("a", None),
-                ("c", Some(("5", 0, None))),
-                ("a", Some(("6", 1, Some(2000)))),
-                ("b", Some(("7", 2000, Some(9000)))),
-            ],
-        ),
-        (
-            3000,
-            [
-                ("b", None),
-                ("c", Some(("8", 2100, None))),
-                ("c", None),
-                ("a", Some(("9", 1, None))),
-            ],
-        ),
-    ],
-};
-
-/// The changes that conditional puts and removals and a `clear` of two keys make, and the first of them once more.
-const SHORT: Table = Table {
-    keys: ["a", "x", "y"],
-    sessions: [
-        (
-            1000,
-            [
-                ("a", Some(("1", 1, None))),
-                ("a", Some(("3", 1, None))),
-                ("a", Some(("4", 1, None))),
-                ("a", None),
-            ],
-        ),
-        (
-            1000,
-            [
-                ("x", Some(("\0 ", 1, None))),
-                ("y", Some(("", 1, None))),
-                ("x", None),
-                ("y", None),
-            ],
-        ),
-        (
-            3000,
-            [
-                ("a", Some(("1", 1, None))),
-                ("a", Some(("3", 1, None))),
-                ("a", Some(("4", 1, None))),
-                ("a", None),
-            ],
-        ),
-    ],
-};
-
-/// Keys of which a bit or two of hash tells none apart, the middle one of which is removed again and again.
-const MIDDLE: Table = Table {
-    keys: ["a", "b", "bb"],
-    sessions: [
-        (
-            1000,
-            [
-                ("a", Some(("1", 1, None))),
-                ("b", Some(("2", 2, None))),
-                ("bb", Some(("3", 3, None))),
-                ("b", None),
-            ],
-        ),
-        (
-            2000,
-            [
-                ("b", Some(("4", 4, None))),
-                ("a", Some(("5", 5, None))),
-                ("b", None),
-                ("bb", Some(("6", 6, Some(3000)))),
-            ],
-        ),
-        (
-            3000,
-            [
-                ("a", Some(("7", 7, None))),
-                ("bb", None),
-                ("b", Some(("8", 8, None))),
-                ("bb", Some(("9", 9, None))),
-            ],
-        ),
-    ],
-};
-
-/// Ways of which a change finds the queue full, or leaves room in it, or is in the index before the next one. Behind some,
-/// a compaction goes on between the changes, or whole ones take place.
-const WAYS: [(u32, usize, bool, usize, usize); 9] = [
-    (0, 1, true, 0, 0),
-    (0, 2, false, 1, 0),
-    (3, 2, true, 0, 0),
-    (3, 16, false, 2, 0),
-    (32, 1, true, 1, 0),
-    (32, 16, false, 0, 0),
-    (0, 1, true, 0, 1),
-    (3, 2, false, 1, 3),
-    (32, 16, true, 0, 20),
-];
-
-fn way_of(row: (u32, usize, bool, usize, usize)) -> Way {
-    Way {
-        hash_bits: row.0,
-        queue: row.1,
-        sync_writes: row.2,
-        steps: row.3,
-        turns: row.4,
-    }
-}
+use store_trait::{FileStore, HeapStore, Keyed, Store};
 
 fn settings_of(rt: &impl Abort, alloc: Global, way: &Way) -> Result<Settings, Fail>
     ensures { IfOk result AreInRange }
@@ -255,6 +106,21 @@ fn step<H: Host, S: Store<H>>(
     ensures stands { OnOk result (IsTrue H.tells → (S.means store.new (H.state host.new)).stands) }
 {
     store.step(host, moment, kind)
+}
+
+/// Compacts a file whole.
+fn compact<H: Host, S: FileStore<H>>(
+    store: &mut S,
+    host: &mut H,
+    moment: u64,
+    file: u32,
+) -> Result<Turned, StoreFault>
+    requires ready { IsReady (S.facts store.old) moment }
+    requires stands { IsTrue H.tells → (S.means store.old (H.state host.old)).stands }
+    ensures ready { OnOk result (IsReady (S.facts store.new) moment) }
+    ensures stands { OnOk result (IsTrue H.tells → (S.means store.new (H.state host.new)).stands) }
+{
+    store.compact_file(host, file, moment)
 }
 
 /// A read, made once more where it was refused for memory.
@@ -437,6 +303,45 @@ fn compact_often<F: Fn(&Key) -> bool + Drop>(
     Ok(())
 }
 
+/// Whether there is a data file of this number that isn't the current one.
+fn is_closed<F: Fn(&Key) -> bool + Drop>(
+    store: &SoftIndex<F>,
+    host: &MemoryHost,
+    file: u32,
+) -> bool {
+    store.log.log.parts.log.current() != Some(file) && host.file(data_file(file)).is_some()
+}
+
+/// Compacts a file whole, where one is named. It is gone then, unless it is the current one. Where no compaction was under
+/// way this is done exactly where the file was a closed one.
+fn compact_named<F: Fn(&Key) -> bool + Drop>(
+    rt: &impl Abort,
+    store: &mut SoftIndex<F>,
+    host: &mut MemoryHost,
+    moment: u64,
+    named: u32,
+) -> Result<(), Fail>
+    requires ready { IsReady (index_facts F.Fn store.old) moment }
+    requires stands { (index_means store.old (memory_state host.old)).stands }
+    ensures ready { OnOk result (IsReady (index_facts F.Fn store.new) moment) }
+    ensures stands { OnOk result ((index_means store.new (memory_state host.new)).stands) }
+{
+    if named == 0 {
+        return Ok(());
+    }
+    let current = store.log.log.parts.log.current().unwrap_or(1);
+    let file = named.min(current.saturating_sub(1).max(1));
+    let was_closed = is_closed(store, host, file);
+    let was_alone = store.log.run.is_none();
+    let turned = compact(store, host, moment, file)?;
+    assert!(rt; !is_closed(store, host, file), "{file}");
+    assert!(rt;
+        !was_alone || (turned == Turned::Done) == was_closed,
+        "{file}"
+    );
+    Ok(())
+}
+
 /// Counts the files where index steps are taken: else the queue is to fill up.
 fn count_now<F: Fn(&Key) -> bool + Drop>(
     rt: &impl Abort,
@@ -457,8 +362,8 @@ fn count_now<F: Fn(&Key) -> bool + Drop>(
     counts_hold(rt, alloc, store, host, moment)
 }
 
-/// One change, which both stores then have, and index steps, turns of a compaction and a count of the files, which change
-/// nothing of what is read.
+/// One change, which both stores then have, and index steps, compactions and a count of the files, which change nothing of
+/// what is read.
 fn row_holds<F: Fn(&Key) -> bool + Drop>(
     rt: &impl Abort,
     alloc: Global,
@@ -483,6 +388,7 @@ fn row_holds<F: Fn(&Key) -> bool + Drop>(
     reads_alike(rt, alloc, store, heap, host, keys, moment)?;
     index_often(rt, store, host, moment, way.steps)?;
     compact_often(store, host, moment, way.turns)?;
+    compact_named(rt, store, host, moment, way.file)?;
     reads_alike(rt, alloc, store, heap, host, keys, moment)?;
     count_now(rt, alloc, store, host, moment, way.steps)?;
     reads_alike(rt, alloc, store, heap, host, keys, moment)
@@ -614,12 +520,12 @@ fn sessions_hold(
     Ok(host)
 }
 
-/// The data file that is written first.
-fn first_file() -> FileName {
+/// The data file of this number.
+fn data_file(number: u32) -> FileName {
     FileName {
         kind: FileKind::Log,
         store: 0,
-        id: 1,
+        id: number,
     }
 }
 
@@ -628,8 +534,9 @@ fn sessions_hold_the_same_as_a_store_in_memory(rt: HostRuntime) -> Result<(), Fa
     for row in WAYS {
         let way = way_of(row);
         let left = sessions_hold(&rt, rt.alloc(), &LONG, &way)?;
+        // A session of four changes ends before the compaction of three records does, where one turn follows each.
         assert!(&rt;
-            left.file(first_file()).is_none() == (way.turns > 2),
+            left.file(data_file(1)).is_none() == (way.turns > 1 || way.file != 0),
             "{row:?}"
         );
         sessions_hold(&rt, rt.alloc(), &SHORT, &way)?;
@@ -687,8 +594,8 @@ fn note(
     Ok(())
 }
 
-/// One change more in the past, and index steps and turns of a compaction behind it. Where changes are synced at once, its
-/// answer is a promise.
+/// One change more in the past, and index steps and compactions behind it. Where changes are synced at once, its answer is
+/// a promise.
 fn row_passes<F: Fn(&Key) -> bool + Drop>(
     rt: &impl Abort,
     alloc: Global,
@@ -715,7 +622,8 @@ fn row_passes<F: Fn(&Key) -> bool + Drop>(
         past.promises.push((host.turns(), past.turns.len()))?;
     }
     index_often(rt, store, host, moment, way.steps)?;
-    compact_often(store, host, moment, way.turns)
+    compact_often(store, host, moment, way.turns)?;
+    compact_named(rt, store, host, moment, way.file)
 }
 
 /// One session, whose changes are promised at its end.
@@ -821,12 +729,12 @@ fn crashes_hold(rt: &impl Abort, alloc: Global, table: &Table, way: &Way) -> Res
 #[test]
 fn crashes_leave_changes_that_were_begun(rt: HostRuntime) -> Result<(), Fail> {
     for (table, row) in [
-        (&LONG, (32, 16, true, 0, 0)),
-        (&LONG, (3, 2, false, 1, 2)),
-        (&SHORT, (0, 1, true, 1, 0)),
-        (&SHORT, (32, 2, false, 0, 1)),
-        (&MIDDLE, (0, 2, false, 0, 0)),
-        (&MIDDLE, (3, 16, true, 0, 20)),
+        (&LONG, (32, 16, true, 0, 0, 0)),
+        (&LONG, (3, 2, false, 1, 1, 1)),
+        (&SHORT, (0, 1, true, 1, 0, 0)),
+        (&SHORT, (32, 2, false, 0, 1, 0)),
+        (&MIDDLE, (0, 2, false, 0, 1, u32::MAX)),
+        (&MIDDLE, (3, 16, true, 0, 20, 0)),
     ] {
         crashes_hold(&rt, rt.alloc(), table, &way_of(row))?;
     }

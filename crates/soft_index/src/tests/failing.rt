@@ -5,7 +5,8 @@ ghost use Rattle.host_memory.specs.History.{memory_state};
 ghost use Rattle.soft_index.specs.Index.{index_facts, index_means};
 
 use crate::SoftIndex;
-use crate::tests::{LAST, Way, answer, settings_of};
+use crate::tests::tables::{LAST, Way};
+use crate::tests::{answer, settings_of};
 use cache_model::{Answer, Key, StoreFault};
 use host_memory::MemoryHost;
 use std::alloc::Global;

@@ -3,7 +3,7 @@ use Rattle.append_log.specs.Current.{files_of, is_unsealed}
 use Rattle.file_stats.specs.Figures.{IsLeastCandidate}
 use Rattle.soft_index.specs.Store.{current_of, number, writer}
 use Rattle.soft_index.proofs.Acting.{current_by_files, next_by_files}
-use Rattle.soft_index.proofs.Beginning.{begun_failed, begun_none, begun_over, begun_refused, candidate_closed, candidate_named, candidate_other, candidate_there}
+use Rattle.soft_index.proofs.Beginning.{begun_failed, begun_none, begun_next, begun_refused, candidate_closed, candidate_named, candidate_other, candidate_there}
 use Rattle.soft_index.proofs.Turning.{current_tail}
 use Rattle.soft_index.proofs.compacting.begin_next.Goals as goal
 
@@ -48,17 +48,15 @@ returns-in-Ok-clause-told g c told =
     let log = c.in_default.ensures.log in
     let current = c.current-current.ensures ∙ sym (current_tail (writer mid) (number mid) (is_unsealed (files_of mid.parts.log))) ∙ current_by_files old mid log in
     let least = subst (λ (n : Option ℕ). IsLeastCandidate c.args.threshold n mid.parts.stats.rows (Some c.in-Some.file)) current c.in-Some.ensures in
-    let scans = c.in-Ok.ensures.scans told in
-    begun_over c.args.threshold old mid a b (g.H.Host.state c.begin.new.host) c.args.moment c.in-Some.file c.in-Ok.run' held c.in_default.ensures.plain.same (c.empty.ensures.still told) (c.begin.ensures.still told)
-    c.in_default.ensures.plain.unspoilt c.empty.ensures.latest log c.in_default.ensures.emptied
-    (c.in_default.ensures.told told held.frames held.records held.log) (c.in_default.ensures.rows told held.frames held.records held.log) least
-    c.in-Ok.ensures.begun scans.0 scans.1
+    begun_next old mid a b (g.H.Host.state c.begin.new.host) c.args.moment held c.in_default.ensures.plain.same (c.empty.ensures.still told) (c.begin.ensures.still told)
+    c.in_default.ensures.plain.unspoilt c.empty.ensures.latest log (c.in_default.ensures.told told held.frames held.records held.log) c.in_default.ensures.emptied
+    c.args.threshold c.in-Some.file c.in-Ok.begun (c.in_default.ensures.rows told held.frames held.records held.log) least c.in-Ok.ensures.begun (c.in-Ok.ensures.scans told)
 
 pub returns-in-Err-begin-clause-told : goal.returns-in-Err-begin-clause-told
 returns-in-Err-begin-clause-told g c told =
     let old = c.args.store.now in
     let mid = c.empty.new.store in
     let held = c.requires.stands told in
-    begun_failed c.args.threshold old mid (g.H.Host.state c.args.host.now) (g.H.Host.state c.empty.new.host) (g.H.Host.state c.begin.new.host) c.args.moment c.in-Err-begin.fault held c.in_default.ensures.plain.same (c.empty.ensures.still told) (c.begin.ensures.still told)
-    c.in_default.ensures.plain.unspoilt c.empty.ensures.latest (c.in_default.ensures.told told held.frames held.records held.log)
-    (λ d err. c.in-Err-begin.ensures.undamaged d cc) (λ s err. c.in-Err-begin.ensures.unspent s cc)
+    begun_failed old mid (g.H.Host.state c.args.host.now) (g.H.Host.state c.empty.new.host) (g.H.Host.state c.begin.new.host) c.args.moment held c.in_default.ensures.plain.same (c.empty.ensures.still told) (c.begin.ensures.still told)
+    c.in_default.ensures.plain.unspoilt c.empty.ensures.latest c.in_default.ensures.log (c.in_default.ensures.told told held.frames held.records held.log)
+    c.args.threshold c.in-Err-begin.fault (λ d err. c.in-Err-begin.ensures.undamaged d cc) (λ s err. c.in-Err-begin.ensures.unspent s cc)

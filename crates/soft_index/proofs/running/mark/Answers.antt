@@ -27,6 +27,7 @@ returns-in-Ok-clause-told g c told was held read none =
         runs = run_marked was c.args.run next old new a b held.frames held.records c.args.moment held.runs read none refl refl refl is.stamped c.in-Ok.ensures.plain.late;
         zero = is.stamped.0.grows.zero held.zero;
       };
+      stays = (is.stamped.0.grows.closed was.file held.runs.closed held.runs.there).1;
       rows = marked_rows old.parts.requests.limit was c.args.run next old a.files held.frames held.records (length old.parts.requests.waiting) rows.2 (current_of (writer old) (number old)) _ held.runs read refl refl refl none
           (rows.4 ∙ ap (λ (q : ℕ). row_of q (Some rows.2)) (sym (same_queued (length old.parts.requests.waiting) rows.0 (current_of (writer old) (number old)) rows.1 rows.3)));
     }
@@ -42,5 +43,6 @@ returns-in-Err-clause-told g c told was held read none =
       acts = acts_err {Q = Unit {0}} {R = Option Run} old new a b c.args.moment c.in-Err.fault (acts_or {R = Unit {0}} old new a b c.args.moment (Err c.in-Err.fault) is.acts);
       content = tt;
       held = tt;
+      stays = tt;
       rows = tt;
     }

@@ -49,6 +49,7 @@ returns-in-Err-clause-told g c told stamped held =
           (λ e err. fault_alike {T = Option Run} {U = Unit {0}} f e err) (c.in-Err.ensures.told told held.frames held.records held.log).acts;
       content = tt;
       held = tt;
+      stays = tt;
       rows = tt;
     }
 
@@ -71,6 +72,7 @@ returns-in-Err-take_away-clause-told g c told stamped held =
           (acts_chain {Q = Unit {0}} {R = Unit {0}} old mid new a b d c.args.moment tt (Err f) c.in_default.ensures.plain.same is.content is.acts (acts_or {R = Unit {0}} mid new b d c.args.moment (Err f) taken.acts));
       content = tt;
       held = tt;
+      stays = tt;
       rows = tt;
     }
 

@@ -4,7 +4,7 @@ use Rattle.cache_model.specs.Images.{IsMark}
 use Rattle.temporary_table.specs.declared.requests.Request.{Request}
 use Rattle.store_trait.specs.Meaning.{Row}
 use Rattle.soft_index.specs.declared.running.Run.{Run}
-use Rattle.soft_index.specs.Compacting.{ByRun, with_run}
+use Rattle.soft_index.specs.Compacting.{ByRun, CompactsFile, with_run}
 use Rattle.soft_index.specs.Running.{run_of}
 use Rattle.soft_index.specs.Steps.{StepsIn}
 use Rattle.soft_index.specs.Store.{MakesRoom, Queues, current_of, log_facts, next_file, next_of, number, row_of, writer}
@@ -52,5 +52,7 @@ returns-in-Ok-clause-started g c told =
       room = λ a b. subst (λ (n : ℕ). ByRun (MakesRoom n) a b) limit;
       steps = λ read kind turned a b steps.
           subst (λ (n : ℕ). StepsIn c.args.settings.now.queue n read kind turned a b) idle.1 (subst (λ (n : ℕ). StepsIn n store.threshold read kind turned a b) limit steps);
+      compacts = λ read mid file turned turns a b. subst (λ (n : ℕ). CompactsFile n read mid file turned turns a b) limit;
+      turns = λ read mid file rows. refl;
       counts = λ read figures a b counts. counts;
     }
