@@ -132,9 +132,9 @@ module _ (course : Course) (left : List (List ℕ)) (talk : Talk) (going : is_ov
       ∙ ap (λ (cs : List Command). cs ++ command_done (meaning_of line) response) (sym done-going)
 
   -- a talk with one answer more is about the lines that are left then
-  pub talk-append : (read : Image → Type 0) (line : List ℕ) (response : Response) (taken : ℕ) (rows : List Row) → IsTalk read talk course (line ∷ left) → Answers [] (plain_of talk) (meaning_of line) response
-      → HasMoved read course.pace talk.opening (talk.answered ++ line ∷ []) (talk.responses ++ response ∷ []) taken rows → IsTalk read (with_answer talk line response) course left
-  talk-append read line response taken rows is answers moved = record {
+  pub talk-append : (read : Image → Type 0) (line : List ℕ) (response : Response) (taken turned : ℕ) (rows : List Row) → IsTalk read talk course (line ∷ left) → Answers [] (plain_of talk) (meaning_of line) response
+      → HasMoved read course.pace talk.opening (talk.answered ++ line ∷ []) (talk.responses ++ response ∷ []) taken turned rows → IsTalk read (with_answer talk line response) course left
+  talk-append read line response taken turned rows is answers moved = record {
     opens = is.opens;
     first = is.first;
     file = is.file;

@@ -31,7 +31,7 @@ use Rattle.cache_cli.proofs.Logs.{log_on}
 use Rattle.cache_cli.proofs.Moving.{follows_same, actor_moves}
 use Rattle.cache_cli.proofs.Pumping.{has_stepped, files_later}
 use Rattle.cache_cli.proofs.Running.{GoesOnTo, turn_holds, kept_tells}
-use Rattle.cache_cli.proofs.Ending.{quiet_end, says_of, ends_early, ends_by_fault}
+use Rattle.cache_cli.proofs.Ending.{quiet_end, says_of, ends_early, ends_by_fault, takes_none}
 
 -- a step makes no change
 no_changes : (changes : List Change) → ((key : List ℕ) → of_key key changes ≡ []) → changes ≡ []
@@ -79,8 +79,8 @@ module _ (from : HostState) (course : Course) (ordered : Bool) (left : List (Lis
       let read = read_at course old.host new.host (omega (arith, so.holds.since, so.holds.others.images.later)) reads later in
       let moves = subst (λ (k : StepKind). RowsMove course.pace.queue (ActorMoves (HasRead course new.host) course.pace k turn.store.0) old.facts.parts new.facts.parts) is
       (actor_moves course.pace old.facts so.follows (HasRead course new.host) old.host.files read kind turn.store.0 old.facts.parts new.facts.parts turn.store.2) in
-      let before = moved_later course old.host new.host later talk.opening talk.answered talk.responses taken old.facts.parts so.parts in
-      let moved = has_stepped (HasRead course new.host) course.pace talk.opening talk.answered talk.responses taken old.facts.parts new.facts.parts before turn.store.0 room moves in
+      let before = moved_later course old.host new.host later talk.opening talk.answered talk.responses taken so.turned old.facts.parts so.parts in
+      let moved = has_stepped (HasRead course new.host) course.pace talk.opening talk.answered talk.responses taken old.facts.parts new.facts.parts so.turned before turn.store.0 room moves in
       record {
         goes = (
           kept_tells from course ordered left left talk taken (suc taken) old new (old.host.said old.host.turn) (new.host.said new.host.turn) talk.answered talk.responses talk.ended (files_of kind) so same turn.did.others.images.later
@@ -117,6 +117,8 @@ module _ (from : HostState) (course : Course) (ordered : Bool) (left : List (Lis
         going = pumping.1;
         log = log;
         is_log = subst (λ (b : Bool). IsLog talk.opening (done_in talk ++ hand_of b left) log) pumping.1 on.1;
+        turns = so.turned;
+        takes = takes_none course old.host new.host (later_turn (Err (fault.Spent s)) turn) left talk taken so.turned old.facts.parts so.parts;
         number = s;
         spent = turn.did.spent s refl;
         sequence = λ n at. omega (arith, goes.sequence n (ap (λ (x : Spent). Err (fault.Spent x)) at), turn.did.drawn, so.drawn, len, nothing);

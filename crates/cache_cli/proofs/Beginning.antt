@@ -73,7 +73,8 @@ module _ (course : Course) (ordered : Bool) (now : View) (begins : Begins course
     };
     moment = begins.moment;
     follows = begins.follows;
-    parts = record { parts = no_parts; is_rows = begins.parts; within = omega arith; moved = (0, omega arith, omega arith, refl) };
+    turned = 0;
+    parts = record { parts = no_parts; is_rows = begins.parts; within = omega arith; counted = refl; moved = (0, omega arith, omega arith, refl) };
     numbers = (begins.first, begins.numbers, record { sequence = omega arith; file = omega arith; within = λ some. absurd (omega (arith, some)) });
     drawn = omega (arith, begins.drawn);
     made = omega (arith, begins.made);

@@ -4,24 +4,29 @@ use Rattle.std.specs.Prelude.{sum_by}
 use Rattle.std.proofs.lemmas.Bool.{cases_lt}
 use Rattle.std.proofs.lemmas.List.Sums.{sum_by_push}
 use Rattle.cache_model.specs.declared.commands.Command.{Command}
+use Rattle.cache_model.specs.declared.commands.Command.TheVariants.{CompactFile}
 use Rattle.cache_model.specs.declared.faults.Damage.{Damage}
 use Rattle.cache_model.specs.declared.faults.StoreFault.{StoreFault}
 use Rattle.cache_model.specs.declared.faults.StoreFault.TheVariants as fault
 use Rattle.cache_model.specs.declared.faults.Spent.{Spent}
 use Rattle.cache_model.specs.declared.replies.Status.{Status}
 use Rattle.cache_disk.specs.declared.host.HostFault.TheVariants.{Failed, Memory}
+use Rattle.cache_model.specs.Files.{Image}
 use Rattle.cache_disk.specs.State.{HostState, SameFiles, Silent}
-use Rattle.store_trait.specs.Meaning.{Numbers}
+use Rattle.store_trait.specs.Meaning.{Numbers, Row, StoreFacts}
 use Rattle.cache_model.specs.declared.files.FileName.{FileName}
 use Rattle.store_trait.specs.Keeping.{SameWhere, Carries, Leaves}
-use Rattle.store_trait.specs.Calls.{IsNumbered}
-use Rattle.cache_session.specs.Turns.{files_by, Turns, Goes}
+use Rattle.store_trait.specs.Calls.{IsNumbered, MayHaveRead}
+use Rattle.soft_index.specs.Turns.{turns_for}
+use Rattle.cache_session.specs.Turns.{MakesBy, way_of, files_by, Turns, Goes}
 use Rattle.cache_cli.specs.Fitting.{IsLog}
 use Rattle.cache_cli.specs.Saying.{SaidBy, ended_by, IsNoDamage}
-use Rattle.cache_cli.specs.Talk.{Course, Talk, done_in, plain_of, next_command, asked_in}
-use Rattle.cache_cli.specs.Ends.{IsWithin, Says, EndsEarly, EndsUnsaid}
+use Rattle.cache_cli.specs.Parts.{Pace, Parts, rows_of, FollowsParts}
+use Rattle.cache_cli.specs.Pump.{HasMoved}
+use Rattle.cache_cli.specs.Talk.{Course, Talk, HasRead, done_in, plain_of, next_command, asked_in}
+use Rattle.cache_cli.specs.Ends.{IsWithin, Says, TurnsInHand, TakesTurns, EndsEarly, EndsUnsaid}
 use Rattle.cache_cli.specs.Run.{View, IsLater, IsTelling, IsPumping, IsTalking, IsInHand, IsLost, EndsSaying, Told, EndsAtSpent, EndsBy}
-use Rattle.cache_cli.proofs.Later.{later_by, talk_later}
+use Rattle.cache_cli.proofs.Later.{later_by, read_at, read_between, talk_later, moved_later}
 use Rattle.cache_cli.proofs.Logs.{log_snoc}
 use Rattle.cache_cli.proofs.Running.{said_tells, unsaid_holds, leaves_all}
 
@@ -109,31 +114,66 @@ told from course ordered left talk taken bytes old new (Err ended) hand same mom
 pub quiet_end : (a b : HostState) → a.turn ≤ b.turn → Silent a b → b.said b.turn ≡ a.said a.turn
 quiet_end a b le silent = ⊎_elim (λ later. silent.since b.turn later (omega arith)) (λ early. let same : b.turn ≡ a.turn = omega (arith, early, le) in ap (λ (t : ℕ). b.said t) same ∙ silent.stays a.turn (omega arith)) (cases_lt a.turn b.turn)
 
+-- no turn is taken for the command in hand where another call goes on
+pub takes_none : (course : Course) (a b : HostState) → IsLater a b → (left : List (List ℕ)) (talk : Talk) (taken turned : ℕ) (rows : List Row)
+    → HasMoved (HasRead course a) course.pace talk.opening talk.answered talk.responses taken turned rows → TakesTurns course b left talk turned
+takes_none course a b later left talk taken turned rows moved =
+    let since = moved_later course a b later talk.opening talk.answered talk.responses taken turned rows moved in
+    record { taken = taken; parts = since.parts; moved = since.moved; in_hand = 0; takes = inl refl; all = omega (arith, since.counted) }
+
+-- The turns that the command in hand takes at the most, where the rows are those of such parts: where it compacts one file it
+-- makes no more files.
+in_hand_by : (pace : Pace) (f g : StoreFacts) → FollowsParts pace f → (a b : HostState) (read : Image → Type 0) → read a.files → ((mid : Image) → MayHaveRead a b mid → read mid)
+    → (parts : Parts) → f.parts ≡ rows_of parts → (command : Command) (count : ℕ) → MakesBy (way_of command) f g a b count
+    → (turns : ℕ) × TurnsInHand read parts (command ∷ []) turns × (g.made ≤ f.made + count + files_by command + turns)
+in_hand_by pace f g follows a b read now between parts rows (CompactFile file) count made =
+    let mid = made.0 in
+    let turns = turns_for a.files mid file (rows_of parts) in
+    let same : f.turns a.files mid file f.parts ≡ turns = follows.turns a.files mid file f.parts ∙ ap (λ (l : List Row). turns_for a.files mid file l) rows in
+    (turns, inr (file, a.files, mid, refl, now, between mid made.1, refl), omega (arith, made.2, same))
+in_hand_by pace f g follows a b read now between parts rows command count made = (0, inl refl, omega (arith, made))
+
 -- a number is at its end for a change of the command in hand
 pub ends_spent : (from : HostState) (course : Course) (ordered : Bool) (left : List (List ℕ)) (talk : Talk) (old new : View) (command : Command) (spoilt broken : Bool) (s : Spent)
     → IsTalking from course ordered left talk old
     → next_command left ≡ command ∷ []
+    → old.host.left old.host.turn old.host.files
     → Turns [] (plain_of talk) command old.facts new.facts spoilt old.store new.store old.host new.host (Err (fault.Spent s))
     → Goes command old.facts new.facts old.moment new.moment broken (Err (fault.Spent s))
     → EndsAtSpent course new
-ends_spent from course ordered left talk old new command spoilt broken s talking hand turn goes =
+ends_spent from course ordered left talk old new command spoilt broken s talking hand reads turn goes =
     let so = talking.0 in
     let log = so.standing.log ++ turn.changes in
     let is_log = log_snoc talk.opening (done_in talk) command so.standing.log turn.changes so.standing.is_log turn.order in
     let files : sum_by files_by (done_in talk ++ next_command left) ≡ sum_by files_by (done_in talk) + files_by command =
     ap (λ (l : List Command). sum_by files_by (done_in talk ++ l)) hand ∙ sum_by_push files_by (done_in talk) command in
+    let later = later_by old.host new.host (SameWhere old.facts.owns false) turn.did.others.images in
+    let since : course.since ≤ old.host.turn = omega (arith, so.holds.since, so.holds.others.images.later) in
+    let asked = asked_in course talk in
+    let moved = moved_later course old.host new.host later talk.opening talk.answered talk.responses asked so.turned old.facts.parts so.parts in
+    let takes = in_hand_by course.pace old.facts new.facts so.follows old.host new.host (HasRead course new.host) (read_at course old.host new.host since reads later) (read_between course old.host new.host since) moved.parts moved.is_rows
+    command (length turn.changes) turn.did.made in
     record {
       talk = talk;
       left = left;
       says = says_of from course ordered left talk (asked_in course talk) old (old.host.said old.host.turn) new.host so (quiet_end old.host new.host turn.did.others.images.later turn.did.silent)
-          (later_by old.host new.host (SameWhere old.facts.owns false) turn.did.others.images);
+          later;
       going = talking.1;
       log = log;
       is_log = subst (λ (l : List Command). IsLog talk.opening (done_in talk ++ l) log) (sym hand) is_log;
+      turns = so.turned + takes.0;
+      takes = record {
+        taken = asked;
+        parts = moved.parts;
+        moved = moved.moved;
+        in_hand = takes.0;
+        takes = subst (λ (l : List Command). TurnsInHand (HasRead course new.host) moved.parts l takes.0) (sym hand) takes.1;
+        all = omega (arith, moved.counted);
+      };
       number = s;
       spent = turn.did.spent s refl;
       sequence = λ n is. omega (arith, goes.sequence n (ap (λ (x : Spent). Err (fault.Spent x)) is), turn.did.drawn, so.drawn, length-append so.standing.log turn.changes);
-      files = λ n is. omega (arith, goes.files n (ap (λ (x : Spent). Err (fault.Spent x)) is), turn.did.made, so.made, length-append so.standing.log turn.changes, files);
+      files = λ n is. omega (arith, goes.files n (ap (λ (x : Spent). Err (fault.Spent x)) is), takes.2, so.made, length-append so.standing.log turn.changes, files);
     }
 
 -- a fault of the store that isn't damage ends the run so

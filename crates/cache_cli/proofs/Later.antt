@@ -1,7 +1,7 @@
 -- What was told of files that read so stays true where more files did, as on later hosts.
 use Rattle.std.proofs.Common.{ℕ, zero, suc, ◌+◌, ◌≤◌, List, [], ◌∷◌, arith}
 use Rattle.cache_model.specs.declared.commands.Command.{Command}
-use Rattle.cache_model.specs.declared.commands.Command.TheVariants.{Step, Sync, Stop, Stats}
+use Rattle.cache_model.specs.declared.commands.Command.TheVariants.{Step, Sync, Stop, Stats, CompactFile}
 use Rattle.cache_model.specs.declared.commands.StepKind.{StepKind}
 use Rattle.cache_model.specs.declared.commands.StepKind.TheVariants.{Compact}
 use Rattle.cache_model.specs.declared.replies.Reply.{Reply}
@@ -13,6 +13,7 @@ use Rattle.cache_model.specs.Replies.{Response, replies, refused}
 use Rattle.cache_model.specs.Transcript.{after_answer}
 use Rattle.cache_disk.specs.State.{HostState, Moves}
 use Rattle.store_trait.specs.Meaning.{Row}
+use Rattle.store_trait.specs.Calls.{MayHaveRead}
 use Rattle.cache_cli.specs.Parts.{Pace, Parts, ActorMoves, CommandMoves, AnswerMoves}
 use Rattle.cache_cli.specs.Pump.{background_step, StepsMove, steps_behind, PartsThrough, HasMoved}
 use Rattle.cache_cli.specs.Talk.{Course, Talk, HasRead, IsTalk}
@@ -35,14 +36,29 @@ read_later course a b later files read = (read.0, read.1, omega (arith, read.2, 
 pub read_at : (course : Course) (a b : HostState) → course.since ≤ a.turn → a.left a.turn a.files → IsLater a b → HasRead course b a.files
 read_at course a b since reads later = (a.turn, since, later.later, later.kept a.turn a.files (omega arith) reads)
 
+-- and so did files that may have read so between two of its turns
+pub read_between : (course : Course) (a b : HostState) → course.since ≤ a.turn → (files : Image) → MayHaveRead a b files → HasRead course b files
+read_between course a b since files may = (may.0, omega (arith, since, may.1), may.2, may.3)
+
 module _ (one two : Image → Type 0) (more : (files : Image) → one files → two files) where
   pub actor_more : (pace : Pace) (kind : StepKind) (turned : Turned) (a b : Parts) → ActorMoves one pace kind turned a b → ActorMoves two pace kind turned a b
-  actor_more pace Compact turned a b moves = (moves.0, more moves.0 moves.1, moves.2)
+  actor_more pace Compact turned a b moves = (moves.0, more moves.0 moves.1, moves.2, moves.3)
   actor_more pace kind turned a b moves = moves
 
   command_more : (pace : Pace) (plain : Plain) (command : Command) (reply : Reply) (a b : Parts) → CommandMoves one pace plain command reply a b → CommandMoves two pace plain command reply a b
   command_more pace plain (Step kind) reply a b moves = (moves.0, moves.1, actor_more pace kind moves.0 a b moves.2)
-  command_more pace plain Stats reply a b moves = record { files = moves.files; is_read = more moves.files moves.is_read; figures = moves.figures; reply = moves.reply; counts = moves.counts }
+  command_more pace plain Stats reply a b moves = record { files = moves.files; is_read = more moves.files moves.is_read; figures = moves.figures; reply = moves.reply; counts = moves.counts; turned = moves.turned }
+  command_more pace plain (CompactFile file) reply a b moves = record {
+    files = moves.files;
+    is_read = more moves.files moves.is_read;
+    mid = moves.mid;
+    mid_is_read = more moves.mid moves.mid_is_read;
+    turned = moves.turned;
+    reply = moves.reply;
+    turns = moves.turns;
+    compacts = moves.compacts;
+    took = moves.took;
+  }
   command_more pace plain Sync reply a b moves = moves
   command_more pace plain Stop reply a b moves = moves
   command_more pace plain command reply a b moves = moves
@@ -69,11 +85,12 @@ module _ (one two : Image → Type 0) (more : (files : Image) → one files → 
     through_more pace (taken + due) (steps_behind pace.pump r) (after_answer plain (meaning_of l) r) lines responses is.1 all b is.4,
   )
 
-  moved_more : (pace : Pace) (plain : Plain) (lines : List (List ℕ)) (responses : List Response) (taken : ℕ) (rows : List Row) → HasMoved one pace plain lines responses taken rows → HasMoved two pace plain lines responses taken rows
-  moved_more pace plain lines responses taken rows moved = record {
+  moved_more : (pace : Pace) (plain : Plain) (lines : List (List ℕ)) (responses : List Response) (taken turned : ℕ) (rows : List Row) → HasMoved one pace plain lines responses taken turned rows → HasMoved two pace plain lines responses taken turned rows
+  moved_more pace plain lines responses taken turned rows moved = record {
     parts = moved.parts;
     is_rows = moved.is_rows;
     within = moved.within;
+    counted = moved.counted;
     moved = through_more pace 0 0 plain lines responses _ taken moved.parts moved.moved;
   }
 
@@ -94,6 +111,6 @@ module _ (course : Course) (a b : HostState) (later : IsLater a b) where
   talk_later talk left is = talk_more (HasRead course a) (HasRead course b) (read_later course a b later) talk course left is
 
   -- and parts were moved so still
-  pub moved_later : (plain : Plain) (lines : List (List ℕ)) (responses : List Response) (taken : ℕ) (rows : List Row)
-      → HasMoved (HasRead course a) course.pace plain lines responses taken rows → HasMoved (HasRead course b) course.pace plain lines responses taken rows
-  moved_later plain lines responses taken rows moved = moved_more (HasRead course a) (HasRead course b) (read_later course a b later) course.pace plain lines responses taken rows moved
+  pub moved_later : (plain : Plain) (lines : List (List ℕ)) (responses : List Response) (taken turned : ℕ) (rows : List Row)
+      → HasMoved (HasRead course a) course.pace plain lines responses taken turned rows → HasMoved (HasRead course b) course.pace plain lines responses taken turned rows
+  moved_later plain lines responses taken turned rows moved = moved_more (HasRead course a) (HasRead course b) (read_later course a b later) course.pace plain lines responses taken turned rows moved

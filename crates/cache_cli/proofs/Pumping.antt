@@ -12,6 +12,7 @@ use Rattle.store_trait.specs.Meaning.{Row}
 use Rattle.cache_cli.specs.Parts.{Pace, Parts, RowsMove, ActorMoves, AnswerMoves, no_parts}
 use Rattle.cache_cli.specs.Pump.{background_step, StepsMove, files_by_steps, steps_behind, steps_asked, PartsThrough, HasMoved}
 use Rattle.cache_cli.proofs.Answering.{after-answer}
+use Rattle.cache_cli.proofs.Moving.{actor_turned}
 
 -- how many background steps follow one answer more
 pub asked-append : (pump : ℕ) (responses : List Response) (response : Response) → steps_asked pump (responses ++ response ∷ []) ≡ steps_asked pump responses + steps_behind pump response
@@ -61,41 +62,44 @@ through_answer read pace taken due plain (l ∷ lines) (r ∷ responses) line re
     )
 
 module _ (read : Image → Type 0) (pace : Pace) (plain : Plain) (lines : List (List ℕ)) (responses : List Response) (taken : ℕ) (rows next : List Row)
-    (moved : HasMoved read pace plain lines responses taken rows) where
+    (turned : ℕ) (moved : HasMoved read pace plain lines responses taken turned rows) where
   -- the rows after one background step more
-  pub has_stepped : (turned : Turned) → suc taken ≤ steps_asked pace.pump responses → RowsMove pace.queue (ActorMoves read pace (background_step taken) turned) rows next
-      → HasMoved read pace plain lines responses (suc taken) next
-  has_stepped turned room moves =
+  pub has_stepped : (answer : Turned) → suc taken ≤ steps_asked pace.pump responses → RowsMove pace.queue (ActorMoves read pace (background_step taken) answer) rows next
+      → HasMoved read pace plain lines responses (suc taken) turned next
+  has_stepped answer room moves =
       let after = moves moved.parts moved.is_rows moved.within in
       record {
         parts = after.0;
         is_rows = after.1;
         within = after.2;
-        moved = through_step read pace 0 0 plain lines responses no_parts taken moved.parts after.0 turned moved.moved (omega (arith, room)) after.3;
+        counted = actor_turned read pace (background_step taken) answer moved.parts after.0 after.3 ∙ moved.counted;
+        moved = through_step read pace 0 0 plain lines responses no_parts taken moved.parts after.0 answer moved.moved (omega (arith, room)) after.3;
       }
 
   -- the rows after one answer more
-  pub has_answered : (line : List ℕ) (response : Response) → taken ≡ steps_asked pace.pump responses
-      → RowsMove pace.queue (AnswerMoves read pace (plain_after_all plain (commands_done lines responses)) (meaning_of line) response) rows next
-      → HasMoved read pace plain (lines ++ line ∷ []) (responses ++ response ∷ []) taken next
-  has_answered line response whole moves =
+  pub has_answered : (line : List ℕ) (response : Response) (turns all : ℕ) → all ≡ turned + turns → taken ≡ steps_asked pace.pump responses
+      → RowsMove pace.queue (λ a b. AnswerMoves read pace (plain_after_all plain (commands_done lines responses)) (meaning_of line) response a b × (b.turned ≡ a.turned + turns)) rows next
+      → HasMoved read pace plain (lines ++ line ∷ []) (responses ++ response ∷ []) taken all next
+  has_answered line response turns all sum whole moves =
       let after = moves moved.parts moved.is_rows moved.within in
       record {
         parts = after.0;
         is_rows = after.1;
         within = after.2;
-        moved = through_answer read pace 0 0 plain lines responses line response no_parts taken moved.parts after.0 moved.moved (omega (arith, whole)) after.3;
+        counted = omega (arith, after.3.1, moved.counted, sum);
+        moved = through_answer read pace 0 0 plain lines responses line response no_parts taken moved.parts after.0 moved.moved (omega (arith, whole)) after.3.0;
       }
 
   -- rows that stay
-  pub has_stayed : RowsMove pace.queue (λ a b. b ≡ a) rows next → HasMoved read pace plain lines responses taken next
-  has_stayed moves =
+  pub has_stayed : (turns : ℕ) → RowsMove pace.queue (λ a b. (b ≡ a) × (b.turned ≡ a.turned + turns)) rows next → HasMoved read pace plain lines responses taken (turned + turns) next
+  has_stayed turns moves =
       let after = moves moved.parts moved.is_rows moved.within in
       record {
         parts = after.0;
         is_rows = after.1;
         within = after.2;
-        moved = subst (λ (p : Parts). PartsThrough read pace 0 0 plain lines responses no_parts taken p) (sym after.3) moved.moved;
+        counted = omega (arith, after.3.1, moved.counted);
+        moved = subst (λ (p : Parts). PartsThrough read pace 0 0 plain lines responses no_parts taken p) (sym after.3.0) moved.moved;
       }
 
 -- more background steps make no fewer files

@@ -144,10 +144,10 @@ numbered_by n m a b same is = subst (λ (k : ℕ). IsNumbered k a b) same is
 
 -- a talk told by other words of it
 pub retell : (from : HostState) (course : Course) (ordered : Bool) (left left_next : List (List ℕ)) (talk : Talk) (taken : ℕ) (now : View) (said said_next : Option (List ℕ)) (answered : List (List ℕ)) (responses : List Response) (ended : Bool)
-    → IsTelling from course ordered left talk taken now said
+    → (telling : IsTelling from course ordered left talk taken now said)
     → done_in (with_words talk answered responses ended) ≡ done_in talk
     → IsTalk (HasRead course now.host) (with_words talk answered responses ended) course left_next
-    → HasMoved (HasRead course now.host) course.pace talk.opening answered responses taken now.facts.parts
+    → HasMoved (HasRead course now.host) course.pace talk.opening answered responses taken telling.turned now.facts.parts
     → said_next ≡ and_then_said course.said (text_of (with_words talk answered responses ended))
     → IsTelling from course ordered left_next (with_words talk answered responses ended) taken now said_next
 retell from course ordered left left_next talk taken now said said_next answered responses ended telling done is_talk moved says =
@@ -164,6 +164,7 @@ retell from course ordered left left_next talk taken now said said_next answered
       standing = standing.0;
       moment = ap (λ (l : List Command). (plain_after_all talk.opening l).moment) done ∙ telling.moment;
       follows = telling.follows;
+      turned = telling.turned;
       parts = moved;
       numbers = numbered_by (length telling.standing.log) (length standing.0.log) (Some talk.first) now.facts.numbers len telling.numbers;
       drawn = omega (arith, telling.drawn, len);
@@ -188,18 +189,19 @@ module _ (from : HostState) (course : Course) (ordered : Bool) (left : List (Lis
       (on_command (talking.0.standing.log ++ turn.changes) (log_snoc talk.opening (done_in talk) command talking.0.standing.log turn.changes talking.0.standing.is_log turn.order))
 
   -- a command was done: with these words of the talk, which have that command more
-  pub done_tells : (reply : Reply) (left_next : List (List ℕ)) (said : Option (List ℕ)) (answered : List (List ℕ)) (responses : List Response) (ended : Bool)
+  pub done_tells : (reply : Reply) (turns : ℕ) (left_next : List (List ℕ)) (said : Option (List ℕ)) (answered : List (List ℕ)) (responses : List Response) (ended : Bool)
       → (turn : Turns [] (plain_of talk) command old.facts new.facts spoilt old.store new.store old.host new.host (Ok reply))
       → spoilt ≡ false
       → HoldsNow new.facts new.store new.host.turn
+      → new.facts.made ≤ old.facts.made + length turn.changes + files_by command + turns
       → new.moment ≡ moment_after old.moment command
       → FollowsParts course.pace new.facts
       → done_in (with_words talk answered responses ended) ≡ done_in talk ++ command ∷ []
       → IsTalk (HasRead course new.host) (with_words talk answered responses ended) course left_next
-      → HasMoved (HasRead course new.host) course.pace talk.opening answered responses (asked_in course talk) new.facts.parts
+      → HasMoved (HasRead course new.host) course.pace talk.opening answered responses (asked_in course talk) (talking.0.turned + turns) new.facts.parts
       → said ≡ and_then_said course.said (text_of (with_words talk answered responses ended))
       → IsTelling from course ordered left_next (with_words talk answered responses ended) (asked_in course talk) new said
-  done_tells reply left_next said answered responses ended turn unspoilt now moment follows done is_talk moved says =
+  done_tells reply turns left_next said answered responses ended turn unspoilt now made moment follows done is_talk moved says =
       let next = with_words talk answered responses ended in
       let so = talking.0 in
       let plain = talk.opening in
@@ -219,11 +221,12 @@ module _ (from : HostState) (course : Course) (ordered : Bool) (left : List (Lis
         moment = ap (λ (l : List Command). (plain_after_all plain l).moment) done ∙ ap (λ (p : Plain). p.moment) (plain_after_all-append plain (done_in talk) (command ∷ []))
             ∙ ap (λ (m : ℕ). moment_after m command) so.moment ∙ sym moment;
         follows = follows;
+        turned = so.turned + turns;
         parts = moved;
         numbers = numbered_by (length so.standing.log + length turn.changes) (length standing.0.log) (Some talk.first) new.facts.numbers (sym len)
             (numbered_then (length so.standing.log) (length turn.changes) talk.first old.facts.numbers new.facts.numbers so.numbers turn.did.numbers);
         drawn = omega (arith, so.drawn, turn.did.drawn, len);
-        made = omega (arith, so.made, turn.did.made, len, files);
+        made = omega (arith, so.made, made, len, files);
         holds = command_holds (Ok reply) turn;
       }
 
@@ -242,7 +245,7 @@ pub kept_tells : (from : HostState) (course : Course) (ordered : Bool) (left lef
     → HoldsSince from course ordered new
     → done_in (with_words talk answered responses ended) ≡ done_in talk
     → IsTalk (HasRead course new.host) (with_words talk answered responses ended) course left_next
-    → HasMoved (HasRead course new.host) course.pace talk.opening answered responses taken_next new.facts.parts
+    → HasMoved (HasRead course new.host) course.pace talk.opening answered responses taken_next so.turned new.facts.parts
     → said ≡ and_then_said course.said (text_of (with_words talk answered responses ended))
     → IsTelling from course ordered left_next (with_words talk answered responses ended) taken_next new said
 kept_tells from course ordered left left_next talk taken taken_next old new said_old said answered responses ended files so same later keeps content numbers drawn made more stands sound moment follows holds done is_talk moved says =
@@ -261,6 +264,7 @@ kept_tells from course ordered left left_next talk taken taken_next old new said
       standing = standing.0;
       moment = ap (λ (l : List Command). (plain_after_all plain l).moment) done ∙ so.moment ∙ sym moment;
       follows = follows;
+      turned = so.turned;
       parts = moved;
       numbers = numbered_by (length so.standing.log + 0) (length standing.0.log) (Some talk.first) new.facts.numbers (omega (arith, len))
           (numbered_then (length so.standing.log) 0 talk.first old.facts.numbers new.facts.numbers so.numbers numbers);
@@ -337,7 +341,7 @@ module _ (from : HostState) (course : Course) (ordered : Bool) (left : List (Lis
       let Stands : StoreFacts → Type 0 = λ (f : StoreFacts). (next : Standing talk.opening (done_in talk) course.synced ordered f hand.base new.store new.host.turn) × (length next.log ≡ length hand.standing.log) in
       let standing : Stands new.facts = subst Stands (sym same) (at.0, len) in
       let later = later_by old.host new.host SameFiles said.ok.images in
-      let moved = moved_later course old.host new.host later talk.opening talk.answered talk.responses taken old.facts.parts hand.parts in
+      let moved = moved_later course old.host new.host later talk.opening talk.answered talk.responses taken hand.turned old.facts.parts hand.parts in
       record {
         is_talk = talk_later course old.host new.host later talk left hand.is_talk;
         says = said.ok.said.since new.host.turn said.ok.ok (omega arith) ∙ hand.says;
@@ -348,7 +352,8 @@ module _ (from : HostState) (course : Course) (ordered : Bool) (left : List (Lis
         standing = standing.0;
         moment = hand.moment ∙ sym moment;
         follows = subst (λ (f : StoreFacts). FollowsParts course.pace f) (sym same) hand.follows;
-        parts = subst (λ (f : StoreFacts). HasMoved (HasRead course new.host) course.pace talk.opening talk.answered talk.responses taken f.parts) (sym same) moved;
+        turned = hand.turned;
+        parts = subst (λ (f : StoreFacts). HasMoved (HasRead course new.host) course.pace talk.opening talk.answered talk.responses taken hand.turned f.parts) (sym same) moved;
         numbers = numbered_by (length hand.standing.log) (length standing.0.log) (Some talk.first) new.facts.numbers (sym standing.1)
             (subst (λ (f : StoreFacts). IsNumbered (length hand.standing.log) (Some talk.first) f.numbers) (sym same) hand.numbers);
         drawn = omega (arith, hand.drawn, standing.1, ap_drawn);

@@ -29,7 +29,7 @@ use Rattle.store_trait.specs.Calls.{IsReady}
 use Rattle.store_trait.proofs.Runs.{leaves_then}
 use Rattle.cache_script.specs.Damages.{damage_line}
 use Rattle.soft_index.specs.declared.soft_index.SoftIndex.{SoftIndex}
-use Rattle.soft_index.specs.Compacting.{Run, ByRun, CompactsBy, CountsBy, GoesOnWith, TakesAction, row_with, with_run}
+use Rattle.soft_index.specs.Compacting.{Run, ByRun, CompactsBy, CompactsFile, CountsBy, GoesOnWith, TakesAction, row_with, with_run}
 use Rattle.soft_index.specs.Index.{IsRead, IsStarted, index_means}
 use Rattle.rebuild.specs.Listing.{IsFirstDamageOf}
 use Rattle.soft_index.specs.Store.{AreInRange as IsInRangeOfStore, HasReading, MakesRoom, Queues, owns_file}
@@ -189,6 +189,8 @@ spent_by course now is spent = record {
   going = spent.going;
   log = spent.log;
   is_log = spent.is_log;
+  turns = spent.turns;
+  takes = spent.takes;
   spent = ⊎_elim (λ sequence. inl (spent.sequence (2 ^ 62) sequence)) (λ files. inr (spent.files (2 ^ 32 - 1) files)) (is spent.number spent.spent);
 }
 
@@ -245,10 +247,10 @@ store_moves queue rows next by = λ a is within.
     let moves = by.3 in
     let was : rows_of a ≡ row_with moves.0 moves.1 by.0 = sym is ∙ by.4 ∙ ap (with_run by.0) moves.3 in
     let queued : a.queued ≡ moves.0 = ap first_queued was in (
-      record { queued = min (moves.0 + 1) queue; current = Some moves.2; run = by.0 },
+      record { queued = min (moves.0 + 1) queue; current = Some moves.2; run = by.0; turned = a.turned },
       by.5 ∙ ap (with_run by.0) moves.4,
       omega arith,
-      record { queued = ap (λ (n : ℕ). min (n + 1) queue) (sym queued); current = refl; run = sym (ap first_run was) },
+      record { queued = ap (λ (n : ℕ). min (n + 1) queue) (sym queued); current = refl; run = sym (ap first_run was); turned = refl },
     )
 
 -- one request less
@@ -283,7 +285,7 @@ store_compacts : (pace : Pace) (files : Image) (turned : Turned) (rows next : Li
 store_compacts pace files Done rows next turn = λ a is within.
     let was : rows_of a ≡ row_with turn.queued turn.current turn.run = sym is ∙ turn.before in
     let waiting = waiting_within pace.queue pace.threshold files turn.queued turn.current turn.run turn.number turn.done turn.waiting turn.goes_on (omega (arith, within, ap first_queued was)) in (
-      record { queued = turn.left; current = turn.now; run = turn.next },
+      record { queued = turn.left; current = turn.now; run = turn.next; turned = a.turned },
       turn.after,
       left_within pace.queue turn.number _ turn.done turn.waiting turn.current turn.left turn.now turn.next turn.action waiting,
       (
@@ -304,9 +306,10 @@ store_compacts pace files Done rows next turn = λ a is within.
           after = refl;
           action = turn.action;
         },
+        refl,
       ),
     )
-store_compacts pace files Idle rows next none = λ a is within. (record { queued = 0; current = none.1; run = None }, none.4, omega arith, (files, refl, (none.0, none.1, sym is ∙ none.2, none.3, refl)))
+store_compacts pace files Idle rows next none = λ a is within. (record { queued = 0; current = none.1; run = None; turned = a.turned }, none.4, omega arith, (files, refl, (none.0, none.1, sym is ∙ none.2, none.3, refl), refl))
 
 store_steps : (pace : Pace) (files : Image) (kind : StepKind) (turned : Turned) (rows next : List Row) → StepsIn pace.queue pace.threshold files kind turned rows next → RowsMove pace.queue (ActorMoves (λ image. image ≡ files) pace kind turned) rows next
 store_steps pace files Rotate Done rows next by = λ a is within.
@@ -332,9 +335,29 @@ store_steps pace files Flush turned rows next by = left_by_run pace.queue turned
 store_steps pace files Evict turned rows next by = left_by_run pace.queue turned rows next by
 store_steps pace files Reap turned rows next by = left_by_run pace.queue turned rows next by
 
-store_counts : (queue : ℕ) (files : Image) (figures : ℕ × ℕ × ℕ) (rows next : List Row) → CountsBy files figures rows next → RowsMove queue (λ a b. CountsBy files figures (rows_of a) (rows_of b)) rows next
+store_counts : (queue : ℕ) (files : Image) (figures : ℕ × ℕ × ℕ) (rows next : List Row) → CountsBy files figures rows next → RowsMove queue (λ a b. CountsBy files figures (rows_of a) (rows_of b) × (b.turned ≡ a.turned)) rows next
 store_counts queue files figures rows next counts = λ a is within.
-    (record { queued = 0; current = counts.1; run = counts.2 }, counts.5, omega arith, (counts.0, counts.1, counts.2, sym is ∙ counts.3, counts.4, refl))
+    (record { queued = 0; current = counts.1; run = counts.2; turned = a.turned }, counts.5, omega arith, ((counts.0, counts.1, counts.2, sym is ∙ counts.3, counts.4, refl), refl))
+
+-- the parts behind the compaction of a file with so many records
+abbrev behind_file : Parts → ℕ → ℕ → ℕ → Option ℕ → Parts
+behind_file a queue records turns now = record { queued = min records queue; current = now; run = None; turned = a.turned + turns }
+
+-- the compaction of one file, whose turns are counted
+store_compacts_file : (queue : ℕ) (files mid : Image) (file : ℕ) (turned : Turned) (turns : ℕ) (rows next : List Row) → CompactsFile queue files mid file turned turns rows next
+    → RowsMove queue (λ a b. CompactsFile queue files mid file turned turns (rows_of a) (rows_of b) × (b.turned ≡ a.turned + turns)) rows next
+store_compacts_file queue files mid file Done turns rows next by = λ a is within. (
+  behind_file a queue _ turns by.4,
+  by.10,
+  omega arith,
+  ((by.0, by.1, by.2, by.3, by.4, sym is ∙ by.5, by.6, by.7, by.8, by.9, refl), refl),
+)
+store_compacts_file queue files mid file Idle turns rows next by = λ a is within. (
+  record { queued = 0; current = by.3; run = None; turned = a.turned + turns },
+  by.8,
+  omega arith,
+  ((by.0, by.1, by.2, by.3, sym is ∙ by.4, by.5, by.6, by.7, refl), refl),
+)
 
 -- a store that was opened follows the rules of its settings
 pub started_follows : (files : Image) (settings : Settings) (facts : StoreFacts) (state : StoreState) (mark : ℕ) → IsStarted files settings facts state mark → FollowsParts (pace_of settings) facts
@@ -343,6 +366,8 @@ started_follows files settings facts state mark started = record {
   empties = λ rows next same. rows_stay settings.queue rows next (started.empties rows next same);
   room = λ rows next room. store_room settings.queue rows next (started.room rows next room);
   counts = λ files figures rows next counts. store_counts settings.queue files figures rows next (started.counts files figures rows next counts);
+  compacts = λ files mid file turned turns rows next compacts. store_compacts_file settings.queue files mid file turned turns rows next (started.compacts files mid file turned turns rows next compacts);
+  turns = started.turns;
   steps = λ files kind turned rows next steps. store_steps (pace_of settings) files kind turned rows next (started.steps files kind turned rows next steps);
 }
 
@@ -384,6 +409,8 @@ started_same a b settings facts state mark same started =
       empties = started.empties;
       room = started.room;
       steps = started.steps;
+      compacts = started.compacts;
+      turns = started.turns;
       counts = started.counts;
     }
 

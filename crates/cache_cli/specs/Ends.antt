@@ -1,9 +1,12 @@
 -- How a run ends: what it said by then, by its status.
-use Rattle.std.specs.Prelude.{◌≡◌, ◌⊎◌, ℕ, ◌+◌, ◌-◌, ◌^◌, ◌<◌, ◌≤◌, true, false, List, ◌++◌, length, None, sum_by}
+use Rattle.std.specs.Prelude.{◌≡◌, ◌⊎◌, ℕ, ◌+◌, ◌-◌, ◌^◌, ◌<◌, ◌≤◌, true, false, List, [], ◌∷◌, ◌++◌, length, None, sum_by}
+use Rattle.cache_model.specs.declared.commands.Command.{Command}
+use Rattle.cache_model.specs.declared.commands.Command.TheVariants.{CompactFile}
 use Rattle.cache_model.specs.declared.entries.Change.{Change}
 use Rattle.cache_model.specs.declared.faults.Damage.{Damage}
 use Rattle.cache_model.specs.declared.replies.Status.{Status}
 use Rattle.cache_model.specs.declared.replies.Status.TheVariants as status
+use Rattle.cache_model.specs.Files.{Image}
 use Rattle.cache_model.specs.Lines.{Lacks, lines_of, units_of, units_of_length}
 use Rattle.cache_disk.specs.State.{HostState, SameFiles}
 use Rattle.cache_disk.specs.Calls.{and_then_said}
@@ -13,7 +16,9 @@ use Rattle.rebuild.specs.Listing.{IsFirstDamageOf}
 use Rattle.cache_session.specs.Turns.{files_by}
 use Rattle.cache_cli.specs.Foreign.{IsForeign}
 use Rattle.cache_cli.specs.Fitting.{IsLog}
-use Rattle.cache_cli.specs.Pump.{files_by_steps}
+use Rattle.soft_index.specs.Turns.{turns_for}
+use Rattle.cache_cli.specs.Parts.{Parts, rows_of, no_parts}
+use Rattle.cache_cli.specs.Pump.{files_by_steps, PartsThrough}
 use Rattle.cache_cli.specs.Talk.{Course, Talk, HasRead, IsTalk, text_of, done_in, is_over, next_command, asked_in}
 
 -- where there are changes, their numbers and those of their files are within their ends
@@ -55,9 +60,26 @@ pub record EndsUnsaid (course : Course) (to : HostState) : Type 0 where
   pub before : turn < to.turn
   pub lost : (t : ℕ) → turn < t → t ≤ to.turn → to.said t ≡ None
 
+-- so many turns are taken for these commands at the most: none, or those of the compaction of one file, where the files
+-- read so when it begins, and so once the compaction that is under way has ended
+abbrev pub TurnsInHand : (Image → Type 0) → Parts → List Command → ℕ → Type 0
+TurnsInHand read parts commands turns =
+    (turns ≡ 0) ⊎ ((file : ℕ) × (files : Image) × (mid : Image) × (commands ≡ CompactFile file ∷ []) × read files × read mid × (turns ≡ turns_for files mid file (rows_of parts)))
+
+-- So many turns are taken for lines that compact one file: those that the parts count that the answers and so many background
+-- steps came to, and those for the command in hand.
+pub record TakesTurns (course : Course) (to : HostState) (left : List (List ℕ)) (talk : Talk) (turns : ℕ) : Type 0 where
+  pub taken : ℕ
+  pub parts : Parts
+  pub moved : PartsThrough (HasRead course to) course.pace 0 0 talk.opening talk.answered talk.responses no_parts taken parts
+  pub in_hand : ℕ
+  pub takes : TurnsInHand (HasRead course to) parts (next_command left) in_hand
+  pub all : turns ≡ parts.turned + in_hand
+
 -- A run ended at a command or a background step for which a number is at its end: the next sequence number, or that of a
 -- file that has to be made. The numbers at the opening and the changes of the commands up to this one add up to no less; a
--- turn of a compaction counts as a change for the file that it may make, also among the background steps.
+-- turn of a compaction counts as a change for the file that it may make, also among the background steps, and also where a
+-- line compacts one file.
 pub record EndsSpent (course : Course) (to : HostState) : Type 0 where
   pub talk : Talk
   pub left : List (List ℕ)
@@ -65,7 +87,10 @@ pub record EndsSpent (course : Course) (to : HostState) : Type 0 where
   pub going : is_over talk ≡ false
   pub log : List Change
   pub is_log : IsLog talk.opening (done_in talk ++ next_command left) log
-  pub spent : (2 ^ 62 ≤ talk.first.sequence + length log) ⊎ (2 ^ 32 - 1 ≤ talk.first.file + length log + sum_by files_by (done_in talk ++ next_command left) + files_by_steps (asked_in course talk))
+  pub turns : ℕ
+  pub takes : TakesTurns course to left talk turns
+  pub spent : (2 ^ 62 ≤ talk.first.sequence + length log)
+      ⊎ (2 ^ 32 - 1 ≤ talk.first.file + length log + sum_by files_by (done_in talk ++ next_command left) + files_by_steps (asked_in course talk) + turns)
 
 -- A run took as many units of its script as it may, with a part of the line in hand.
 pub record EndsTaken (course : Course) (to : HostState) : Type 0 where

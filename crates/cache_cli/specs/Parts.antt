@@ -1,7 +1,7 @@
 -- The parts of a store, and how the commands of a talk move them, with the actors that are built so far.
 use Rattle.std.specs.Prelude.{◌≡◌, ◌⊎◌, ℕ, ◌+◌, ◌-◌, ◌≤◌, min, List, [], ◌∷◌, Option, None, IsSome}
 use Rattle.cache_model.specs.declared.commands.Command.{Command}
-use Rattle.cache_model.specs.declared.commands.Command.TheVariants.{Step, Sync, Stop, Stats}
+use Rattle.cache_model.specs.declared.commands.Command.TheVariants.{Step, Sync, Stop, Stats, CompactFile}
 use Rattle.cache_model.specs.declared.commands.StepKind.{StepKind}
 use Rattle.cache_model.specs.declared.commands.StepKind.TheVariants.{Index, Compact, Rotate}
 use Rattle.cache_model.specs.declared.entries.Change.{Change}
@@ -14,7 +14,8 @@ use Rattle.cache_model.specs.Plain.{Plain, effect_of}
 use Rattle.cache_model.specs.Lines.{LineMeaning, asks, refuses}
 use Rattle.cache_model.specs.Replies.{Response, replies, refused}
 use Rattle.store_trait.specs.Meaning.{Row, StoreFacts}
-use Rattle.soft_index.specs.Compacting.{CompactsBy, CountsBy}
+use Rattle.soft_index.specs.Compacting.{CompactsBy, CompactsFile, CountsBy}
+use Rattle.soft_index.specs.Turns.{turns_for}
 use Rattle.cache_session.specs.Changing.{IsOrder}
 use Rattle.cache_session.specs.Turns.{figures_of}
 
@@ -26,19 +27,21 @@ pub record Pace : Type 0 where
   pub pump : ℕ
 
 -- What commands and steps move of a store: how many requests to its index are queued, the file that is written, or none,
--- and the file under compaction with the turns that were done, or none.
+-- and the file under compaction with the turns that were done, or none. Beside these, how many turns the lines that compact
+-- one file took so far.
 pub record Parts : Type 0 where
   pub queued : ℕ
   pub current : Option ℕ
   pub run : Option (ℕ × ℕ)
+  pub turned : ℕ
 
--- the parts of a store that has only these: no change is pending
+-- the parts of a store that has only these: no change is pending, and it knows of no turns but those of its run
 abbrev pub rows_of : Parts → List Row
 rows_of parts = record { queued = parts.queued; pending = []; current = parts.current; run = parts.run } ∷ []
 
 -- the parts at the opening
 abbrev pub no_parts : Parts
-no_parts = record { queued = 0; current = None; run = None }
+no_parts = record { queued = 0; current = None; run = None; turned = 0 }
 
 -- How a change that is written moves them, with so much room in the queue: one request more is queued, and its file is the
 -- current one. Where the queue is full one request is taken before. A queue without room never has one.
@@ -46,6 +49,7 @@ pub record ChangeMoves (queue : ℕ) (a b : Parts) : Type 0 where
   pub queued : b.queued ≡ min (a.queued + 1) queue
   pub current : IsSome b.current
   pub run : b.run ≡ a.run
+  pub turned : b.turned ≡ a.turned
 
 -- how changes that are written in turn move them
 abbrev pub ChangesMove : ℕ → List Change → Parts → Parts → Type 0
@@ -64,7 +68,7 @@ ClosingMoves Idle a b = (a.current ≡ None) × (b ≡ a)
 
 -- how a turn of a compaction moves them, by files that read so
 abbrev pub CompactingMoves : (Image → Type 0) → Pace → Turned → Parts → Parts → Type 0
-CompactingMoves read pace turned a b = (files : Image) × read files × CompactsBy pace.queue pace.threshold files turned (rows_of a) (rows_of b)
+CompactingMoves read pace turned a b = (files : Image) × read files × CompactsBy pace.queue pace.threshold files turned (rows_of a) (rows_of b) × (b.turned ≡ a.turned)
 
 -- how a step moves them, where these files read so: the other actors have nothing to do yet
 abbrev pub ActorMoves : (Image → Type 0) → Pace → StepKind → Turned → Parts → Parts → Type 0
@@ -85,12 +89,29 @@ pub record CountMoves (read : Image → Type 0) (given : Reply) (a b : Parts) : 
   pub figures : ℕ × ℕ × ℕ
   pub reply : given ≡ reply.Stats (figures_of figures)
   pub counts : CountsBy files figures (rows_of a) (rows_of b)
+  pub turned : b.turned ≡ a.turned
+
+-- How the compaction of one file moves them, and what it answers: it ends a compaction that is under way, and then takes all
+-- turns of one over this file, or is idle where that isn't a closed one. The files read so when it began, and so once the
+-- compaction that was under way had ended.
+pub record FileMoves (read : Image → Type 0) (pace : Pace) (file : ℕ) (given : Reply) (a b : Parts) : Type 0 where
+  pub files : Image
+  pub is_read : read files
+  pub mid : Image
+  pub mid_is_read : read mid
+  pub turned : Turned
+  pub reply : given ≡ reply.Turned turned
+  pub turns : ℕ
+  pub compacts : CompactsFile pace.queue files mid file turned turns (rows_of a) (rows_of b)
+  pub took : b.turned ≡ a.turned + turns
 
 -- How a command with its reply moves the parts, where these files read so: by its changes, in an order of its keys. A sync
--- leaves them. The reply to a step says what it did, and that to `stats` what a count of the files gave.
+-- leaves them. The reply to a step says what it did, that to `stats` what a count of the files gave, and that to the
+-- compaction of one file whether it could be compacted.
 abbrev pub CommandMoves : (Image → Type 0) → Pace → Plain → Command → Reply → Parts → Parts → Type 0
 CommandMoves read pace plain (Step kind) given a b = (turned : Turned) × (given ≡ reply.Turned turned) × ActorMoves read pace kind turned a b
 CommandMoves read pace plain Stats given a b = CountMoves read given a b
+CommandMoves read pace plain (CompactFile file) given a b = FileMoves read pace file given a b
 CommandMoves read pace plain Sync given a b = b ≡ a
 CommandMoves read pace plain Stop given a b = b ≡ a
 CommandMoves read pace plain command given a b = (changes : List Change) × IsOrder (effect_of plain command) changes × ChangesMove pace.queue changes a b
@@ -110,5 +131,9 @@ pub record FollowsParts (pace : Pace) (facts : StoreFacts) : Type 0 where
   pub moves : (change : Change) (rows next : List Row) → facts.moves change rows next → RowsMove pace.queue (ChangeMoves pace.queue) rows next
   pub empties : (rows next : List Row) → facts.empties rows next → RowsMove pace.queue (λ a b. b ≡ a) rows next
   pub room : (rows next : List Row) → facts.room rows next → RowsMove pace.queue (RoomMoves pace.queue) rows next
-  pub counts : (files : Image) (figures : ℕ × ℕ × ℕ) (rows next : List Row) → facts.counts files figures rows next → RowsMove pace.queue (λ a b. CountsBy files figures (rows_of a) (rows_of b)) rows next
+  pub counts : (files : Image) (figures : ℕ × ℕ × ℕ) (rows next : List Row) → facts.counts files figures rows next
+      → RowsMove pace.queue (λ a b. CountsBy files figures (rows_of a) (rows_of b) × (b.turned ≡ a.turned)) rows next
+  pub compacts : (files mid : Image) (file : ℕ) (turned : Turned) (turns : ℕ) (rows next : List Row) → facts.compacts files mid file turned turns rows next
+      → RowsMove pace.queue (λ a b. CompactsFile pace.queue files mid file turned turns (rows_of a) (rows_of b) × (b.turned ≡ a.turned + turns)) rows next
+  pub turns : (files mid : Image) (file : ℕ) (rows : List Row) → facts.turns files mid file rows ≡ turns_for files mid file rows
   pub steps : (files : Image) (kind : StepKind) (turned : Turned) (rows next : List Row) → facts.steps files kind turned rows next → RowsMove pace.queue (ActorMoves (λ image. image ≡ files) pace kind turned) rows next

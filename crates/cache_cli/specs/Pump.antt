@@ -54,9 +54,10 @@ PartsThrough read pace taken due plain (line ∷ lines) (response ∷ responses)
     × PartsThrough read pace (taken + due) (steps_behind pace.pump response) (after_answer plain (meaning_of line) response) lines responses d all b
 
 -- The rows of a store are those of parts that these answers and so many background steps came to from the opening on,
--- where these files read so.
-pub record HasMoved (read : Image → Type 0) (pace : Pace) (plain : Plain) (lines : List (List ℕ)) (responses : List Response) (taken : ℕ) (rows : List Row) : Type 0 where
+-- where these files read so. So many turns were taken for the lines that compact one file.
+pub record HasMoved (read : Image → Type 0) (pace : Pace) (plain : Plain) (lines : List (List ℕ)) (responses : List Response) (taken turned : ℕ) (rows : List Row) : Type 0 where
   pub parts : Parts
   pub is_rows : rows ≡ rows_of parts
   pub within : parts.queued ≤ pace.queue
+  pub counted : parts.turned ≡ turned
   pub moved : PartsThrough read pace 0 0 plain lines responses no_parts taken parts

@@ -24,7 +24,7 @@ use Rattle.cache_cli.specs.Parts.{RowsMove, RoomMoves, CommandMoves, FollowsPart
 use Rattle.cache_cli.specs.Pump.{files_by_steps, HasMoved}
 use Rattle.cache_cli.specs.Standing.{Standing}
 use Rattle.cache_cli.specs.Talk.{Course, Talk, HasRead, IsTalk, plain_of, done_in, text_of, is_over, hand_of, next_command, asked_in}
-use Rattle.cache_cli.specs.Ends.{Says, EndsEarly, EndsUnsaid, EndsTaken}
+use Rattle.cache_cli.specs.Ends.{Says, TakesTurns, EndsEarly, EndsUnsaid, EndsTaken}
 
 -- the same talk by other words of it: the same opening, and these lines and answers
 abbrev pub with_words : Talk → List (List ℕ) → List Response → Bool → Talk
@@ -70,7 +70,8 @@ pub record HoldsSince (from : HostState) (course : Course) (ordered : Bool) (now
   pub opens : (t : ℕ) → from.turn ≤ t → t ≤ now.host.turn → now.store.opens t
 
 -- A session tells a talk, which is what was said by then: its store stands for the plain map after the talk's commands, its
--- numbers went on by their changes, and its parts moved by its answers and so many background steps.
+-- numbers went on by their changes, and its parts moved by its answers and so many background steps. No more files were made
+-- than there were changes and turns of compactions.
 pub record IsTelling (from : HostState) (course : Course) (ordered : Bool) (left : List (List ℕ)) (talk : Talk) (taken : ℕ) (now : View) (said : Option (List ℕ)) : Type 0 where
   pub is_talk : IsTalk (HasRead course now.host) talk course left
   pub says : said ≡ and_then_said course.said (text_of talk)
@@ -81,10 +82,11 @@ pub record IsTelling (from : HostState) (course : Course) (ordered : Bool) (left
   pub standing : Standing talk.opening (done_in talk) course.synced ordered now.facts base now.store now.host.turn
   pub moment : (plain_of talk).moment ≡ now.moment
   pub follows : FollowsParts course.pace now.facts
-  pub parts : HasMoved (HasRead course now.host) course.pace talk.opening talk.answered talk.responses taken now.facts.parts
+  pub turned : ℕ
+  pub parts : HasMoved (HasRead course now.host) course.pace talk.opening talk.answered talk.responses taken turned now.facts.parts
   pub numbers : IsNumbered (length standing.log) (Some talk.first) now.facts.numbers
   pub drawn : now.facts.drawn ≤ talk.first.sequence + length standing.log
-  pub made : now.facts.made ≤ talk.first.file + length standing.log + sum_by files_by (done_in talk) + files_by_steps taken
+  pub made : now.facts.made ≤ talk.first.file + length standing.log + sum_by files_by (done_in talk) + files_by_steps taken + turned
   pub holds : HoldsSince from course ordered now
 
 -- a session is busy with the background steps behind its last answer, of which so many were taken in all: its talk isn't over
@@ -117,7 +119,7 @@ pub record Told (from : HostState) (course : Course) (ordered : Bool) (left : Li
   pub holds : HoldsSince from course ordered now
 
 -- A number is at its end for a change of the command in hand, or for a background step: the numbers at the opening, the
--- changes of the commands up to it and the background steps add up to no less.
+-- changes of the commands up to it, the background steps and the turns of compactions add up to no less.
 pub record EndsAtSpent (course : Course) (now : View) : Type 0 where
   pub talk : Talk
   pub left : List (List ℕ)
@@ -125,10 +127,12 @@ pub record EndsAtSpent (course : Course) (now : View) : Type 0 where
   pub going : is_over talk ≡ false
   pub log : List Change
   pub is_log : IsLog talk.opening (done_in talk ++ next_command left) log
+  pub turns : ℕ
+  pub takes : TakesTurns course now.host left talk turns
   pub number : Spent
   pub spent : now.store.spent number
   pub sequence : (n : ℕ) → number ≡ Sequence n → n ≤ talk.first.sequence + length log
-  pub files : (n : ℕ) → number ≡ Files n → n ≤ talk.first.file + length log + sum_by files_by (done_in talk ++ next_command left) + files_by_steps (asked_in course talk)
+  pub files : (n : ℕ) → number ≡ Files n → n ≤ talk.first.file + length log + sum_by files_by (done_in talk ++ next_command left) + files_by_steps (asked_in course talk) + turns
 
 -- how a run ends while its lines are answered
 abbrev pub EndsBy : Status → Course → View → Type 0
@@ -143,27 +147,29 @@ EndsBy status.NoMemory course now = EndsEarly course now.host
 EndsBy status.Spent course now = EndsAtSpent course now
 EndsBy status.LinesSpent course now = EndsTaken course now.host
 
--- With these words of the talk, which have these commands more, its answer is in hand.
-abbrev pub TellsMore : HostState → Course → Bool → Talk → List Command → View → Type 0
-TellsMore from course ordered talk commands now =
+-- With these words of the talk, which have these commands more, its answer is in hand. So many turns were taken for the lines
+-- that compact one file.
+abbrev pub TellsMore : HostState → Course → Bool → Talk → List Command → ℕ → View → Type 0
+TellsMore from course ordered talk commands turned now =
     (left : List (List ℕ)) (said : Option (List ℕ)) (answered : List (List ℕ)) (responses : List Response) (ended : Bool)
     → done_in (with_words talk answered responses ended) ≡ done_in talk ++ commands
     → IsTalk (HasRead course now.host) (with_words talk answered responses ended) course left
-    → HasMoved (HasRead course now.host) course.pace talk.opening answered responses (asked_in course talk) now.facts.parts
+    → HasMoved (HasRead course now.host) course.pace talk.opening answered responses (asked_in course talk) turned now.facts.parts
     → said ≡ and_then_said course.said (text_of (with_words talk answered responses ended))
     → IsTelling from course ordered left (with_words talk answered responses ended) (asked_in course talk) now said
 
--- what a command that was done, or refused for want of memory, leaves
-abbrev pub DoesBy : Option Reply → HostState → Course → Bool → List (List ℕ) → Talk → Command → View → View → Type 0
-DoesBy (Some reply) from course ordered left talk command old now =
-    IsReply command (plain_reply [] (plain_of talk) command) (replies reply) × TellsMore from course ordered talk (command ∷ []) now
-    × RowsMove course.pace.queue (CommandMoves (HasRead course now.host) course.pace (plain_of talk) command reply) old.facts.parts now.facts.parts
-DoesBy None from course ordered left talk command old now =
-    IsTrue (may_be_refused command) × TellsMore from course ordered talk [] now × RowsMove course.pace.queue (RoomMoves course.pace.queue) old.facts.parts now.facts.parts
+-- what a command that was done, or refused for want of memory, leaves, where so many turns were taken before it for the lines
+-- that compact one file
+abbrev pub DoesBy : Option Reply → HostState → Course → Bool → List (List ℕ) → Talk → Command → ℕ → View → View → Type 0
+DoesBy (Some reply) from course ordered left talk command turned old now =
+    (turns : ℕ) × IsReply command (plain_reply [] (plain_of talk) command) (replies reply) × TellsMore from course ordered talk (command ∷ []) (turned + turns) now
+    × RowsMove course.pace.queue (λ a b. CommandMoves (HasRead course now.host) course.pace (plain_of talk) command reply a b × (b.turned ≡ a.turned + turns)) old.facts.parts now.facts.parts
+DoesBy None from course ordered left talk command turned old now =
+    IsTrue (may_be_refused command) × TellsMore from course ordered talk [] turned now × RowsMove course.pace.queue (RoomMoves course.pace.queue) old.facts.parts now.facts.parts
 
 -- The command in hand was done, or refused for want of memory, or the run ended.
-pub record Does (from : HostState) (course : Course) (ordered : Bool) (left : List (List ℕ)) (talk : Talk) (command : Command) (old now : View) (result : Result (Option Reply) Status) : Type 0 where
-  pub goes : IfOk result (λ reply. DoesBy reply from course ordered left talk command old now)
+pub record Does (from : HostState) (course : Course) (ordered : Bool) (left : List (List ℕ)) (talk : Talk) (command : Command) (turned : ℕ) (old now : View) (result : Result (Option Reply) Status) : Type 0 where
+  pub goes : IfOk result (λ reply. DoesBy reply from course ordered left talk command turned old now)
   pub silent : OnOk result (now.host.said now.host.turn ≡ old.host.said old.host.turn)
   pub later : OnOk result (IsLater old.host now.host)
   pub ends : IfErr result (λ ended. EndsBy ended course now)

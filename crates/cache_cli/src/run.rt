@@ -66,9 +66,9 @@ fn do_command<H: Host, S: FileStore<H>>(
     ensures fit { OnOk result (IsFit (S.facts (store_of session.new)) (is_broken session.new) (moment_of session.new)) }
     ensures stands { IsTrue H.tells → OnOk result (S.means (store_of session.new) (H.state host.new)).stands }
     ensures does { IsTrue H.tells → (from : H) (course : Course) (ordered : Bool) (left : List (List ℕ)) (talk : Talk)
-        → IsTalking (H.state from) course ordered left talk (view_by S.facts S.means session.old (H.state host.old))
+        → (talking : IsTalking (H.state from) course ordered left talk (view_by S.facts S.means session.old (H.state host.old)))
         → next_command left ≡ command ∷ []
-        → Does (H.state from) course ordered left talk command (view_by S.facts S.means session.old (H.state host.old)) (view_by S.facts S.means session.new (H.state host.new)) result }
+        → Does (H.state from) course ordered left talk command talking.0.turned (view_by S.facts S.means session.old (H.state host.old)) (view_by S.facts S.means session.new (H.state host.new)) result }
     ensures cause { HasHostCause (H.state host.old) (H.state host.new) result }
 {
     let refusable = may_be_refused(&command);

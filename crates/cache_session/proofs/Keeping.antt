@@ -18,7 +18,7 @@ use Rattle.cache_disk.specs.Calls.{HasStoreCause}
 use Rattle.store_trait.proofs.Alike.{alike_trans, alike_later, alike_weaker, alike_sym}
 use Rattle.store_trait.proofs.Runs.{new_weaker, new_of, new_whole_weaker, new_whole_of, leaves_then, opens_then}
 use Rattle.cache_session.specs.Changing.{after_all, of_key, has_some}
-use Rattle.cache_session.specs.Turns.{IsNewBy, IsNewWholeBy, KeepsBy, IsContentAfter, IsUnchanged, Way, by_changes, MovesBy, PartsBy, IsRoom, Did}
+use Rattle.cache_session.specs.Turns.{IsNewBy, IsNewWholeBy, KeepsBy, IsContentAfter, IsUnchanged, Way, by_changes, MovesBy, PartsBy, MakesBy, IsRoom, Did}
 use Rattle.cache_session.proofs.Numbers.{numbered_then, draws_then, numbered_by}
 use Rattle.cache_session.proofs.Changing.{after_all-append, of_key-append, after_alike, reads_still, has_earlier}
 
@@ -240,9 +240,10 @@ pub acts_did : {T U : Type 0} (way : Way) (f g : StoreFacts) (s t : StoreState) 
     → (OnOk two (SameContent s.content t.content))
     → (IsErrOf two fault.Memory → g.spoilt ≡ false → SameContent s.content t.content)
     → DrawsNone f g
+    → MakesBy way f g a b 0
     → OnOk two (PartsBy way f [] f.parts g.parts)
     → Did way f g g.spoilt s t a b moment [] two
-acts_did way f g s t a b moment one two faults acts content unchanged draws parts = record {
+acts_did way f g s t a b moment one two faults acts content unchanged draws made parts = record {
   stands = acts.stands;
   others = acts.others;
   silent = acts.silent;
@@ -255,7 +256,7 @@ acts_did way f g s t a b moment one two faults acts content unchanged draws part
   refused = λ of unspoilt. record { keeps = keeps_none f a.turn b.turn moment s t acts.keeps; content = content_same f moment b.turn [] s t (unchanged of unspoilt); numbers = draws; parts = inr (acts.room (faults fault.Memory of) unspoilt) };
   firm = λ firm key has. absurd (never has);
   drawn = omega (arith, draws.drawn);
-  made = omega (arith, draws.made);
+  made = made;
   numbers = always two draws.numbers;
   parts = parts;
 }
@@ -269,7 +270,7 @@ pub acts_err : {T U : Type 0} (f g : StoreFacts) (s t : StoreState) (a b : HostS
     → SameContent s.content t.content
     → DrawsNone f g
     → Did {T = U} by_changes f g g.spoilt s t a b moment [] (Err x)
-acts_err {T} {U} f g s t a b moment x acts content draws = acts_did by_changes f g s t a b moment (Err x) (Err x) (λ e is. same_fault x e is) acts tt (λ of unspoilt. content) draws tt
+acts_err {T} {U} f g s t a b moment x acts content draws = acts_did by_changes f g s t a b moment (Err x) (Err x) (λ e is. same_fault x e is) acts tt (λ of unspoilt. content) draws (omega (arith, draws.made)) tt
 
 -- a call that made one change
 pub written_did : (change : Change) (f g : StoreFacts) (s t : StoreState) (a b : HostState) (moment : ℕ) (result : Result (Unit {0}) StoreFault)

@@ -6,12 +6,11 @@ use Rattle.cache_model.specs.declared.commands.Command.TheVariants.{Put, PutAbse
 use Rattle.cache_model.specs.declared.entries.Change.{Change}
 use Rattle.cache_model.specs.declared.faults.StoreFault.{StoreFault}
 use Rattle.cache_model.specs.declared.replies.Reply.{Reply}
-use Rattle.cache_model.specs.Files.{Image}
 use Rattle.cache_model.specs.Plain.{Plain, effect_of, plain_after, plain_reply, moment_after}
 use Rattle.cache_model.specs.Changes.{changes_by}
 use Rattle.cache_disk.specs.State.{HostState}
 use Rattle.cache_disk.proofs.Runs.{Silent-same}
-use Rattle.store_trait.specs.Meaning.{Row, StoreFacts, StoreState}
+use Rattle.store_trait.specs.Meaning.{StoreFacts, StoreState}
 use Rattle.store_trait.specs.Keeping.{HoldsNow, IsOnly}
 use Rattle.store_trait.proofs.Runs.{old_same, old_whole_same, leaves_same}
 use Rattle.cache_session.specs.Changing.{IsOrder, Shows, has_some}
@@ -36,40 +35,40 @@ pub record IsCalm (command : Command) : Type 1 where
   pub moment : (m : ℕ) → moment_after m command ≡ m
   pub settles : is_settling command ≡ false
   pub idle : is_idle command ≡ false
-  pub store : (f : StoreFacts) (files : Image) (a b : List Row) (reply : Reply) → IsStoreReply command f files a b reply
+  pub store : (f g : StoreFacts) (a b : HostState) (reply : Reply) → IsStoreReply command f g a b reply
 
 pub calm_put : (key value : List ℕ) (lifespan : _) → IsCalm (Put key value lifespan)
-calm_put key value lifespan = record { moment = λ m. refl; settles = refl; idle = refl; store = λ f files a b reply. tt }
+calm_put key value lifespan = record { moment = λ m. refl; settles = refl; idle = refl; store = λ f g a b reply. tt }
 
 pub calm_put_absent : (key value : List ℕ) (lifespan : _) → IsCalm (PutAbsent key value lifespan)
-calm_put_absent key value lifespan = record { moment = λ m. refl; settles = refl; idle = refl; store = λ f files a b reply. tt }
+calm_put_absent key value lifespan = record { moment = λ m. refl; settles = refl; idle = refl; store = λ f g a b reply. tt }
 
 pub calm_replace : (key value : List ℕ) (lifespan : _) → IsCalm (Replace key value lifespan)
-calm_replace key value lifespan = record { moment = λ m. refl; settles = refl; idle = refl; store = λ f files a b reply. tt }
+calm_replace key value lifespan = record { moment = λ m. refl; settles = refl; idle = refl; store = λ f g a b reply. tt }
 
 pub calm_replace_if : (key old value : List ℕ) (lifespan : _) → IsCalm (ReplaceIf key old value lifespan)
-calm_replace_if key old value lifespan = record { moment = λ m. refl; settles = refl; idle = refl; store = λ f files a b reply. tt }
+calm_replace_if key old value lifespan = record { moment = λ m. refl; settles = refl; idle = refl; store = λ f g a b reply. tt }
 
 pub calm_get : (key : List ℕ) → IsCalm (Get key)
-calm_get key = record { moment = λ m. refl; settles = refl; idle = refl; store = λ f files a b reply. tt }
+calm_get key = record { moment = λ m. refl; settles = refl; idle = refl; store = λ f g a b reply. tt }
 
 pub calm_has : (key : List ℕ) → IsCalm (Has key)
-calm_has key = record { moment = λ m. refl; settles = refl; idle = refl; store = λ f files a b reply. tt }
+calm_has key = record { moment = λ m. refl; settles = refl; idle = refl; store = λ f g a b reply. tt }
 
 pub calm_remove : (key : List ℕ) → IsCalm (Remove key)
-calm_remove key = record { moment = λ m. refl; settles = refl; idle = refl; store = λ f files a b reply. tt }
+calm_remove key = record { moment = λ m. refl; settles = refl; idle = refl; store = λ f g a b reply. tt }
 
 pub calm_remove_if : (key old : List ℕ) → IsCalm (RemoveIf key old)
-calm_remove_if key old = record { moment = λ m. refl; settles = refl; idle = refl; store = λ f files a b reply. tt }
+calm_remove_if key old = record { moment = λ m. refl; settles = refl; idle = refl; store = λ f g a b reply. tt }
 
 pub calm_size : IsCalm Size
-calm_size = record { moment = λ m. refl; settles = refl; idle = refl; store = λ f files a b reply. tt }
+calm_size = record { moment = λ m. refl; settles = refl; idle = refl; store = λ f g a b reply. tt }
 
 pub calm_keys : IsCalm Keys
-calm_keys = record { moment = λ m. refl; settles = refl; idle = refl; store = λ f files a b reply. tt }
+calm_keys = record { moment = λ m. refl; settles = refl; idle = refl; store = λ f g a b reply. tt }
 
 pub calm_clear : IsCalm Clear
-calm_clear = record { moment = λ m. refl; settles = refl; idle = refl; store = λ f files a b reply. tt }
+calm_clear = record { moment = λ m. refl; settles = refl; idle = refl; store = λ f g a b reply. tt }
 
 -- what holds of each reply holds of this one
 pub any_reply : (P : Reply → Type 0) (result : Result Reply StoreFault) → ((reply : Reply) → P reply) → IfOk result P
@@ -103,7 +102,7 @@ turns_by publish plain command f g p s t a b moment changes result calm at shows
       did = now;
       shows = shows_then plain command f g p s t a b changes result shows (omega (arith, calm.moment plain.moment)) order now;
       reply = reply;
-      store = any_reply (IsStoreReply command f a.files f.parts g.parts) result (calm.store f a.files f.parts g.parts);
+      store = any_reply (IsStoreReply command f g a b) result (calm.store f g a b);
       promised = λ key is.
           let held = both f.firm (has_some (changes_by (effect_of plain command) key)) (rest (is_settling command) (f.firm && has_some (changes_by (effect_of plain command) key)) calm.settles is) in
           did.firm held.0 key (ap has_some (order key) ∙ held.1);
@@ -122,7 +121,7 @@ pub turns_settled : (publish : List ℕ) (plain : Plain) (command : Command) (f 
     → IsOrder (effect_of plain command) []
     → Did (way_of command) f g p s t a b moment [] result
     → IfOk result (λ reply. IsReplyOf (plain_reply publish plain command) reply)
-    → IfOk result (IsStoreReply command f a.files f.parts g.parts)
+    → IfOk result (IsStoreReply command f g a b)
     → OnOk result ((key : List ℕ) → IsOnly g t b.turn key)
     → Turns publish plain command f g p s t a b result
 turns_settled publish plain command f g p s t a b moment result at shows later busy order did reply store settled = record {
@@ -148,7 +147,7 @@ pub turns_still : (publish : List ℕ) (plain : Plain) (command : Command) (f g 
     → ((key : List ℕ) → changes_by (effect_of plain command) key ≡ [])
     → Did (way_of command) f g p s t a b moment [] result
     → IfOk result (λ reply. IsReplyOf (plain_reply publish plain command) reply)
-    → IfOk result (IsStoreReply command f a.files f.parts g.parts)
+    → IfOk result (IsStoreReply command f g a b)
     → (is_idle command ≡ true → b.turn ≡ a.turn)
     → Turns publish plain command f g p s t a b result
 turns_still publish plain command f g p s t a b moment result at shows later calm none did reply store idle = record {

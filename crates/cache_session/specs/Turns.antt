@@ -21,7 +21,7 @@ use Rattle.cache_model.specs.Changes.{changes_by}
 use Rattle.cache_disk.specs.State.{HostState, Silent}
 use Rattle.store_trait.specs.Meaning.{Reading, Content, read_in, IsAlike, Row, StoreFacts, StoreState}
 use Rattle.store_trait.specs.Keeping.{Leaves, IsOld, IsNew, IsOldWhole, IsNewWhole, Opens, IsKept, SameStore, IsOnly}
-use Rattle.store_trait.specs.Calls.{IsReady, IsNumbered, DrawsNone}
+use Rattle.store_trait.specs.Calls.{IsReady, IsNumbered, DrawsNone, MayHaveRead, CompactsIn}
 use Rattle.cache_session.specs.declared.session.Session.{Session}
 use Rattle.cache_session.specs.declared.event.Event.{Event}
 use Rattle.cache_session.specs.declared.event.Event.TheVariants.{Client, Actor}
@@ -47,7 +47,6 @@ command_of (Actor kind) = Step kind
 -- the commands that a session does
 abbrev pub IsBuilt : Command → Type 0
 IsBuilt CompactAll = ⊥
-IsBuilt (CompactFile number) = ⊥
 IsBuilt Export = ⊥
 IsBuilt command = Unit {0}
 
@@ -80,11 +79,13 @@ pub record IsContentAfter (f : StoreFacts) (moment turn : ℕ) (changes : List C
   pub at_marks : (key : List ℕ) (r : Reading) (mark : ℕ) → new.may turn key r mark
       → IsAlike (f.forgets key) mark (read_in new.content key) (read_in (after_all changes old.content) key)
 
--- How a call goes about: by its changes alone, by a sync, by a count of the files, or by a step.
+-- How a call goes about: by its changes alone, by a sync, by a count of the files, by the compaction of one file, or by a
+-- step.
 pub data Way : Type 0 where
   by_changes : Way
   by_sync : Way
   by_count : Way
+  by_compaction : (file : ℕ) → Way
   by_step : (kind : StepKind) → Way
 
 -- how changes that are written in turn move the parts of a store
@@ -92,11 +93,12 @@ abbrev pub MovesBy : (Change → List Row → List Row → Type 0) → List Chan
 MovesBy moves [] a b = b ≡ a
 MovesBy moves (change ∷ changes) a b = (c : List Row) × moves change a c × MovesBy moves changes c b
 
--- how a call moves them; a count and a step say it with their answers
+-- how a call moves them; a count, a compaction and a step say it with their answers
 abbrev pub PartsBy : Way → StoreFacts → List Change → List Row → List Row → Type 0
 PartsBy by_changes f changes a b = MovesBy f.moves changes a b
 PartsBy by_sync f changes a b = f.empties a b
 PartsBy by_count f changes a b = Unit {0}
+PartsBy (by_compaction file) f changes a b = Unit {0}
 PartsBy (by_step kind) f changes a b = Unit {0}
 
 -- they stay, or room was made in them
@@ -108,12 +110,19 @@ abbrev pub files_of : StepKind → ℕ
 files_of step.Compact = 1
 files_of kind = 0
 
--- how many files a call makes at the most, beside those for its changes
+-- how many files a call makes at the most, beside those for its changes and for the compaction of one file
 abbrev pub files_in : Way → ℕ
 files_in by_changes = 0
 files_in by_sync = 0
 files_in by_count = 0
+files_in (by_compaction file) = 0
 files_in (by_step kind) = files_of kind
+
+-- A call makes one file at the most for each of so many changes, and so many beside. The compaction of one file makes no more
+-- than it takes turns, where the files read so when the compaction that was under way had ended.
+abbrev pub MakesBy : Way → StoreFacts → StoreFacts → HostState → HostState → ℕ → Type 0
+MakesBy (by_compaction file) f g before after count = (mid : Image) × MayHaveRead before after mid × (g.made ≤ f.made + count + f.turns before.files mid file f.parts)
+MakesBy way f g before after count = g.made ≤ f.made + count + files_in way
 
 -- Nothing was changed: neither what the content shows, nor what may be left, nor a number.
 pub record IsUnchanged (f g : StoreFacts) (from to moment : ℕ) (old new : StoreState) : Type 0 where
@@ -139,7 +148,7 @@ pub record Did {T : Type 0} (way : Way) (f g : StoreFacts) (spoilt : Bool) (old 
   pub firm : f.firm ≡ true → (key : List ℕ) → has_some (of_key key changes) ≡ true → OnOk result (IsOnly g new after.turn key)
   -- each change takes one number and makes one file at the most
   pub drawn : g.drawn ≤ f.drawn + length changes
-  pub made : g.made ≤ f.made + length changes + files_in way
+  pub made : MakesBy way f g before after (length changes)
   pub numbers : OnOk result (IsNumbered (length changes) f.numbers g.numbers)
   pub parts : OnOk result (PartsBy way f changes f.parts g.parts)
 
@@ -179,22 +188,24 @@ StepMoves kind f files turned a b = f.steps files kind turned a b
 abbrev pub figures_of : ℕ × ℕ × ℕ → Figures
 figures_of count = record { files = count.0; bytes = count.1; live = count.2; pending = 0; held = 0 }
 
--- What the store itself answers, where the files read so: a step is answered with what it did, and `stats` with the
--- figures of the files. The parts were moved so.
-abbrev pub IsStoreReply : Command → StoreFacts → Image → List Row → List Row → Reply → Type 0
-IsStoreReply (Step kind) f files a b answer = (turned : Turned) × (answer ≡ reply.Turned turned) × StepMoves kind f files turned a b
-IsStoreReply Stats f files a b answer = (count : ℕ × ℕ × ℕ) × (answer ≡ reply.Stats (figures_of count)) × f.counts files count a b
-IsStoreReply command f files a b answer = Unit {0}
+-- What the store itself answers: a step is answered with what it did, `stats` with the figures of the files as they read, and
+-- the compaction of a file with whether it was one that could be compacted. The parts were moved so.
+abbrev pub IsStoreReply : Command → StoreFacts → StoreFacts → HostState → HostState → Reply → Type 0
+IsStoreReply (Step kind) f g before after answer = (turned : Turned) × (answer ≡ reply.Turned turned) × StepMoves kind f before.files turned f.parts g.parts
+IsStoreReply Stats f g before after answer = (count : ℕ × ℕ × ℕ) × (answer ≡ reply.Stats (figures_of count)) × f.counts before.files count f.parts g.parts
+IsStoreReply (CompactFile file) f g before after answer = (turned : Turned) × (answer ≡ reply.Turned turned) × CompactsIn file f g before after turned
+IsStoreReply command f g before after answer = Unit {0}
 
 -- how a command goes about
 abbrev pub way_of : Command → Way
 way_of Sync = by_sync
 way_of Stop = by_sync
 way_of Stats = by_count
+way_of (CompactFile file) = by_compaction file
 way_of (Step kind) = by_step kind
 way_of command = by_changes
 
--- how many files a command makes at the most, beside those for its changes
+-- how many files a command makes at the most, beside those for its changes and for the compaction of one file
 abbrev pub files_by : Command → ℕ
 files_by command = files_in (way_of command)
 
@@ -212,7 +223,7 @@ pub record Turns (publish : List ℕ) (plain : Plain) (command : Command) (f g :
   pub did : Did (way_of command) f g spoilt old new before after plain.moment changes result
   pub shows : OnOk result (Shows (plain_after plain command) new.content)
   pub reply : IfOk result (λ reply. IsReplyOf (plain_reply publish plain command) reply)
-  pub store : IfOk result (λ reply. IsStoreReply command f before.files f.parts g.parts reply)
+  pub store : IfOk result (λ reply. IsStoreReply command f g before after reply)
   pub promised : (key : List ℕ) → promises f.firm plain command key ≡ true → OnOk result (IsOnly g new after.turn key)
   pub idle : is_idle command ≡ true → after.turn ≡ before.turn
 

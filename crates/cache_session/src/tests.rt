@@ -32,6 +32,7 @@ enum Verb {
     Evict,
     Sync,
     Stats,
+    CompactFile(u32),
     Stop,
     Halt,
 }
@@ -76,13 +77,14 @@ const LIFESPANS: [Row; 9] = [
 ];
 
 /// What settles the store, and what leaves it.
-const ENDS: [Row; 10] = [
+const ENDS: [Row; 11] = [
     (Verb::Put, "k", "v", ""),
     (Verb::Step(StepKind::Index), "-", "", ""),
     (Verb::Step(StepKind::Compact), "-", "", ""),
     (Verb::Step(StepKind::Reap), "-", "", ""),
     (Verb::Evict, "k", "", ""),
     (Verb::Stats, "-", "", ""),
+    (Verb::CompactFile(1), "-", "", ""),
     (Verb::Sync, "-", "", ""),
     (Verb::Get, "k", "", ""),
     (Verb::Stop, "-", "", ""),
@@ -90,7 +92,7 @@ const ENDS: [Row; 10] = [
 ];
 
 /// What a mix of commands is drawn from.
-const MIX: [Verb; 18] = [
+const MIX: [Verb; 19] = [
     Verb::Put,
     Verb::Put,
     Verb::PutFor(3),
@@ -109,6 +111,7 @@ const MIX: [Verb; 18] = [
     Verb::Clear,
     Verb::Sync,
     Verb::Stats,
+    Verb::CompactFile(1),
 ];
 
 const KEYS: [&str; 6] = ["a", "b", "ab", "c", "\0", "key"];
@@ -154,6 +157,7 @@ fn command_of(verb: Verb, key: Key, value: Value, old: Value) -> Command
         Verb::Evict => Command::Evict(key),
         Verb::Sync => Command::Sync,
         Verb::Stats => Command::Stats,
+        Verb::CompactFile(file) => Command::CompactFile(file),
         Verb::Stop => Command::Stop,
         Verb::Halt => Command::Halt,
     }

@@ -87,6 +87,10 @@ impl<H: Host> FileStore<H> for NotingStore {
     fn figures(&mut self, host: &mut H, moment: u64) -> Result<(u64, u64, u64), StoreFault> {
         self.store.figures(host, moment)
     }
+
+    fn compact_file(&mut self, host: &mut H, file: u32, moment: u64) -> Result<Turned, StoreFault> {
+        self.store.compact_file(host, file, moment)
+    }
 }
 
 // What a run is given: how many steps follow an answer, how many are taken before one is refused, and the script. What

@@ -5,7 +5,8 @@ ghost use Rattle.std.specs.Prelude.{◌≤◌, IfOk};
 ghost use Rattle.cache_model.specs.Settings.{AreInRange};
 
 use super::tests::{
-    FIRST, NamedBytes, ONE_PUT, Part, SECOND, TWO_PUTS, directory_of, name_of, script_of, words_of,
+    FIRST, NamedBytes, ONE_PUT, Part, SECOND, THIRD, TWO_PUTS, directory_of, name_of, script_of,
+    words_of,
 };
 use super::*;
 use cache_model::Settings;
@@ -53,6 +54,21 @@ const NEWEST_OF_EACH: &[u8] = &[
     1, 1, 1, 0, 0, 0, 0, 0, 0, 0, 2, 0, 0, 0, 0, 0, 0, 3, 235, 0, 1, 0, 0, 0, 1, 98, 50, 2, 0, 0,
     0, 0, 0, 0, 0, 4, 0, 1, 99, 1, 0, 0, 0, 0, 0, 0, 0, 5, 255, 255, 255, 255, 255, 255, 255, 255,
     0, 1, 0, 0, 0, 1, 97, 52, 0, 0, 0, 0, 0, 0, 0, 3, 235, 0,
+];
+
+// The removal of `k` with the number 2, alone in its file.
+const REMOVAL: &[u8] = &[
+    1, 1, 2, 0, 0, 0, 0, 0, 0, 0, 2, 0, 1, 107, 0, 0, 0, 0, 0, 0, 0, 3, 232, 0,
+];
+
+// A stamp, alone in its file.
+const STAMP: &[u8] = &[1, 1, 0, 0, 0, 0, 0, 0, 0, 3, 232, 0];
+
+// A stamp, and a frame with puts of `2` under `a` and of `3` under `b`, as they were numbered.
+const STAMP_AND_COPIES: &[u8] = &[
+    1, 1, 0, 0, 0, 0, 0, 0, 0, 3, 232, 1, 1, 0, 0, 0, 0, 0, 0, 0, 2, 255, 255, 255, 255, 255, 255,
+    255, 255, 0, 1, 0, 0, 0, 1, 97, 50, 1, 0, 0, 0, 0, 0, 0, 0, 3, 255, 255, 255, 255, 255, 255,
+    255, 255, 0, 1, 0, 0, 0, 1, 98, 51, 0, 0, 0, 0, 0, 0, 0, 3, 232, 0,
 ];
 
 // The settings with other sizes of files, with or without a sync of each change, and with so many steps behind each answer.
@@ -171,7 +187,7 @@ const DEAD: [Run; 2] = [
 ];
 
 // Runs that compact files line by line.
-const COMPACTED: [Run; 4] = [
+const COMPACTED: [Run; 8] = [
     // A turn is idle where there is no file, and where only the one that is written has few live bytes.
     (
         true,
@@ -200,6 +216,34 @@ const COMPACTED: [Run; 4] = [
         "put a 1\nput b 2 ttl 3\nput c 3\nat 1003\nremove c\nput a 4\nstep rotate\nstep compact\nstep compact\nstep compact\nstep compact\nstep compact\nstep compact\nstep compact\nstep compact\nkeys\n",
         "opened 1000\nok\nok\nok\nok\nok\nok\ndone\ndone\ndone\ndone\ndone\ndone\ndone\ndone\nidle\nkeys a\nstopped\n",
         &[(SECOND, NEWEST_OF_EACH)],
+    ),
+    // A file that is named is compacted whole, where it's there.
+    (
+        true,
+        "put k v1\nstep rotate\nremove k\nstep rotate\ncompact 1\ncompact 1\ncompact 9\n",
+        "opened 1000\nok\ndone\nok\ndone\ndone\nidle\nidle\nstopped\n",
+        &[(SECOND, REMOVAL), (THIRD, STAMP)],
+    ),
+    // The one that is written isn't, and nothing waits for the index then. No file has these other numbers, or could.
+    (
+        true,
+        "put a b\ncompact 1\nstep index\ncompact 0\ncompact 2\ncompact 4294967295\ncompact 4294967296\nget a\nstep index\n",
+        "opened 1000\nok\nidle\nidle\nidle\nidle\nidle\nrefused syntax\nvalue b\nidle\nstopped\n",
+        &[(FIRST, ONE_PUT)],
+    ),
+    // The compaction of the file that is named was under way, so that the file is gone once that has ended.
+    (
+        true,
+        "put a b\nstep rotate\nput a c\nstep compact\ncompact 1\nstep index\nstep compact\nget a\nkeys\n",
+        "opened 1000\nok\ndone\nok\ndone\nidle\nidle\nidle\nvalue c\nkeys a\nstopped\n",
+        &[(SECOND, SECOND_PUT)],
+    ),
+    // That of another one was. Both of the records that are copied then are live, and two requests wait behind it.
+    (
+        true,
+        "put a 1\nstep rotate\nput a 2\nput b 3\nstep rotate\nstep compact\ncompact 2\nget a\nget b\nstep index\nstep index\nstep index\nstep compact\nkeys\nstats\n",
+        "opened 1000\nok\ndone\nok\nok\ndone\ndone\ndone\nvalue 2\nvalue 3\ndone\ndone\nidle\nidle\nkeys a b\nstats files 1 bytes 72 live 50 pending 0 held 0\nstopped\n",
+        &[(THIRD, STAMP_AND_COPIES)],
     ),
 ];
 

@@ -15,7 +15,7 @@ returns-in-Ok-clause-answered g c = λ tells from course ordered line left talk 
     let now = view_by g.S.Keyed.facts g.S.Keyed.means c.do_command.new.session (g.H.Host.state c.say_reply.new.host) in
     let reply = c.in-Ok-Some.reply in
     let does = c.in-Ok-Some.ensures.does tells from course ordered (line ∷ left) talk talking (ap asked_by asked) in
-    let did = subst (λ (o : Option Reply). DoesBy o start course ordered (line ∷ left) talk c.args.command old mid) c.in-Ok-Some.field-0-is does.goes in
+    let did = subst (λ (o : Option Reply). DoesBy o start course ordered (line ∷ left) talk c.args.command talking.0.turned old mid) c.in-Ok-Some.field-0-is does.goes in
     let hand = reply_in_hand start course ordered left talk line c.args.command reply old mid talking asked does.silent does.later did in
     answered_ok start course ordered left talk line (replies reply) old mid now talking does.silent does.later c.goes_on.result c.goes_on.ensures
     (c.in-Ok.ensures.told tells from course ordered left (with_answer talk line (replies reply)) (asked_in course talk) hand)
@@ -28,7 +28,7 @@ returns-in-Ok-Some-clause-answered g c = λ tells from course ordered line left 
     let now = view_by g.S.Keyed.facts g.S.Keyed.means c.do_command.new.session (g.H.Host.state c.say_reply.new.host) in
     let reply = c.in-Ok-Some.reply in
     let does = c.in-Ok-Some.ensures.does tells from course ordered (line ∷ left) talk talking (ap asked_by asked) in
-    let did = subst (λ (o : Option Reply). DoesBy o start course ordered (line ∷ left) talk c.args.command old mid) c.in-Ok-Some.field-0-is does.goes in
+    let did = subst (λ (o : Option Reply). DoesBy o start course ordered (line ∷ left) talk c.args.command talking.0.turned old mid) c.in-Ok-Some.field-0-is does.goes in
     let hand = reply_in_hand start course ordered left talk line c.args.command reply old mid talking asked does.silent does.later did in
     answered_err start course ordered left talk line (replies reply) old mid now talking does.silent does.later c.in-Err-say_reply.status
     (c.in-Err-say_reply.ensures.told tells from course ordered left (with_answer talk line (replies reply)) (asked_in course talk) hand)
@@ -40,7 +40,7 @@ returns-in-Ok-say_refusal-clause-answered g c = λ tells from course ordered lin
     let mid = view_by g.S.Keyed.facts g.S.Keyed.means c.do_command.new.session (g.H.Host.state c.do_command.new.host) in
     let now = view_by g.S.Keyed.facts g.S.Keyed.means c.do_command.new.session (g.H.Host.state c.say_refusal.new.host) in
     let does = c.in-Ok-None.ensures.does tells from course ordered (line ∷ left) talk talking (ap asked_by asked) in
-    let did = subst (λ (o : Option Reply). DoesBy o start course ordered (line ∷ left) talk c.args.command old mid) c.in-Ok-None.field-0-is does.goes in
+    let did = subst (λ (o : Option Reply). DoesBy o start course ordered (line ∷ left) talk c.args.command talking.0.turned old mid) c.in-Ok-None.field-0-is does.goes in
     let hand = memory_in_hand start course ordered left talk line c.args.command old mid talking asked does.silent does.later did in
     answered_ok start course ordered left talk line (refused memory) old mid now talking does.silent does.later true refl
     (c.in-Ok-say_refusal.ensures.told tells from course ordered left (with_answer talk line (refused memory)) (asked_in course talk) hand)
@@ -52,7 +52,7 @@ returns-in-Ok-None-clause-answered g c = λ tells from course ordered line left 
     let mid = view_by g.S.Keyed.facts g.S.Keyed.means c.do_command.new.session (g.H.Host.state c.do_command.new.host) in
     let now = view_by g.S.Keyed.facts g.S.Keyed.means c.do_command.new.session (g.H.Host.state c.say_refusal.new.host) in
     let does = c.in-Ok-None.ensures.does tells from course ordered (line ∷ left) talk talking (ap asked_by asked) in
-    let did = subst (λ (o : Option Reply). DoesBy o start course ordered (line ∷ left) talk c.args.command old mid) c.in-Ok-None.field-0-is does.goes in
+    let did = subst (λ (o : Option Reply). DoesBy o start course ordered (line ∷ left) talk c.args.command talking.0.turned old mid) c.in-Ok-None.field-0-is does.goes in
     let hand = memory_in_hand start course ordered left talk line c.args.command old mid talking asked does.silent does.later did in
     answered_err start course ordered left talk line (refused memory) old mid now talking does.silent does.later c.in-Err-say_refusal.status
     (c.in-Err-say_refusal.ensures.told tells from course ordered left (with_answer talk line (refused memory)) (asked_in course talk) hand)

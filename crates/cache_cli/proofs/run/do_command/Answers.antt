@@ -56,6 +56,6 @@ returns-else-is_refusal-clause-does g c = λ tells from course ordered left talk
     let turn = ensures.turns tells [] (plain_of talk) talking.0.moment talking.0.standing.shows in
     let calm = no_damage x (λ damage is. turn.did.undamaged talking.0.sound damage (ap (λ (y : StoreFault). Err y) is)) in
     let ended = c.end_by.ensures.plain calm in
-    subst (λ (host : g.row.H.Denot). Does start course ordered left talk c.args.command old (at host) (Err c.end_by.result)) (sym ended.1)
+    subst (λ (host : g.row.H.Denot). Does start course ordered left talk c.args.command talking.0.turned old (at host) (Err c.end_by.result)) (sym ended.1)
     (does_err start course ordered left talk old new c.args.command spoilt talking hand ensures.goes.same x c.end_by.result
-    (does_fault start course ordered left talk old new c.args.command spoilt talking hand ensures.goes.same x c.end_by.result (is_broken after) ended.0 calm turn ensures.goes) turn)
+    (does_fault start course ordered left talk old new c.args.command spoilt talking hand ensures.goes.same x c.end_by.result (is_broken after) (g.met.H.Host.reads_now c.args.host.now tells) ended.0 calm turn ensures.goes) turn)
