@@ -16,8 +16,8 @@ RUNS, LINES = 6, 40
 KEYS = [b"a", b"b", b"c", b"\x00", b"%", b"two words", b"\xff\xfe", b"k" * 1024]
 VALUES = [b"", b"1", b"2", b" ", b"%.", b"\r\n", bytes(range(256))]
 
-# The lines of steps.
-STEPS = {"index": b"step index", "rotate": b"step rotate", "compact": b"step compact"}
+# How the lines begin whose commands have other names here.
+BEGINNINGS = {"index": b"step index", "rotate": b"step rotate", "turn": b"step compact"}
 
 # Lines that are refused whatever stands before them, and how.
 REFUSED = [
@@ -37,6 +37,9 @@ REFUSED = [
     (b"step  rotate", b"refused syntax"),
     (b"step flush", b"refused syntax"),
     (b"stats x", b"refused syntax"),
+    (b"compact", b"refused syntax"),
+    (b"compact 4294967296", b"refused syntax"),
+    (b"compact -1", b"refused syntax"),
     (b"export", b"refused syntax"),
     (b"remove %.", b"refused key 0"),
     (b"has " + b"k" * 1025, b"refused key 1025"),
@@ -142,8 +145,11 @@ class Plain:
     def rotate(self):
         return self.parts.step("rotate", self.moment), {}
 
-    def compact(self):
+    def turn(self):
         return self.parts.step("compact", self.moment), {}
+
+    def compact(self, number):
+        return self.parts.compact_file(number, self.moment), {}
 
     def stop(self):
         return b"stopped", {}
@@ -188,12 +194,15 @@ class Drawn:
         units = self.choice.choice([0, 1, 2, 5, 10, 2**61 - 1])
         return units, [b"ttl", b"%d" % units]
 
-    def arguments(self, name, moment):
+    def arguments(self, name, plain):
         """What stands behind a command's name, as words and as it is meant."""
         if name == "at":
-            wanted = max(0, moment + self.choice.randrange(-3, 6))
+            wanted = max(0, plain.moment + self.choice.randrange(-3, 6))
             return [b"%d" % wanted], [wanted]
-        if name in ("size", "keys", "clear", "sync", "stats", "index", "rotate", "compact", "stop", "halt"):
+        if name == "compact":
+            number = plain.files.draw_number(self.choice)
+            return [self.choice.choice([b"%d", b"%d", b"%020d"]) % number], [number]
+        if name in ("size", "keys", "clear", "sync", "stats", "index", "rotate", "turn", "stop", "halt"):
             return [], []
         given = [self.key()]
         if name in ("replaceif", "removeif"):
@@ -212,8 +221,8 @@ class Drawn:
         if drawn < 0.15:
             return self.choice.choice(["size", "keys", "clear"])
         if drawn < 0.3:
-            steps = ["index", "index", "index", "rotate", "rotate", "compact", "compact", "compact", "compact"]
-            return self.choice.choice(["sync", "sync", "stats", "stats", *steps])
+            steps = ["index", "index", "index", "rotate", "rotate", "turn", "turn", "turn", "turn"]
+            return self.choice.choice(["sync", "sync", "stats", "stats", *steps, "compact", "compact"])
         kept = ["put", "putabsent", "replace", "replaceif", "get", "has", "remove", "removeif", "at"]
         return self.choice.choice(kept)
 
@@ -226,8 +235,8 @@ class Drawn:
                 changes = {}
             else:
                 name = self.name()
-                words, given = self.arguments(name, plain.moment)
-                text = b" ".join([STEPS.get(name, name.encode()), *words])
+                words, given = self.arguments(name, plain)
+                text = b" ".join([BEGINNINGS.get(name, name.encode()), *words])
                 answer, changes = getattr(plain, name)(*given)
                 plain.change(changes)
             plain.parts.answered(plain.moment)

@@ -81,11 +81,16 @@ def test_each_command(folder):
     ])
 
 
+def check_files(folder, sizes):
+    """Asks for data files of these sizes, by their numbers, and the settings file."""
+    check_names(folder, [SETTINGS_FILE, *map(log_name, sizes)])
+    for number, size in sizes.items():
+        equal((folder / log_name(number)).stat().st_size, size, f"the size of {log_name(number)}")
+
+
 def check_sizes(folder, sizes):
     """Asks for data files of these sizes, from the first one on, and the settings file."""
-    check_names(folder, [SETTINGS_FILE, *map(log_name, range(1, len(sizes) + 1))])
-    for number, size in enumerate(sizes, start=1):
-        equal((folder / log_name(number)).stat().st_size, size, f"the size of {log_name(number)}")
+    check_files(folder, dict(enumerate(sizes, start=1)))
 
 
 def test_writes_that_are_not_synced(folder):
@@ -227,12 +232,6 @@ def test_counts_of_unsealed_records(folder):
     check_sizes(folder, [100])
 
 
-def check_compacted(folder, size):
-    """Asks for the second data file alone, of this size, and the settings file."""
-    check_names(folder, [SETTINGS_FILE, log_name(2)])
-    equal((folder / log_name(2)).stat().st_size, size, f"the size of {log_name(2)}")
-
-
 def test_compaction_line_by_line(folder):
     """Each turn of a compaction takes one action: two records are passed over, two are copied, the log needs no stamp, and
     the file goes. A put between them is newer than the copy of its key."""
@@ -251,7 +250,7 @@ def test_compaction_line_by_line(folder):
         (b"step compact", "idle"),
         (b"stats", counts(1, 89, 51)),
     ])
-    check_compacted(folder, 89)
+    check_files(folder, {2: 89})
     check_answers(folder, 5, [(b"get a", "value x"), (b"get k", "value v2"), (b"step compact", "idle")], opened=1000)
 
 
@@ -259,8 +258,69 @@ def test_compaction_behind_answers(folder):
     """Background steps compact a file that has few live bytes, and change no answer."""
     set_folder(folder, "pump = 1000\n")
     check_answers(folder, 1000, [(b"put a b", "ok"), (b"step rotate", "done"), (b"put a c", "ok"), (b"get a", "value c")])
-    check_compacted(folder, 37)
+    check_files(folder, {2: 37})
     check_answers(folder, 1000, [(b"get a", "value c")])
+
+
+def test_compaction_of_named_files(folder):
+    """A file that is named is compacted whole, and no file where none that is closed has the number. The removal stays,
+    and the stamp behind it has a file of its own."""
+    set_folder(folder, "pump = 0\n")
+    check_answers(folder, 1000, [
+        (b"put k v1", "ok"),
+        (b"step rotate", "done"),
+        (b"remove k", "ok"),
+        (b"step rotate", "done"),
+        (b"compact 1", "done"),
+        (b"compact 1", "idle"),
+        (b"compact 9", "idle"),
+    ])
+    check_files(folder, {2: 24, 3: 12})
+    moment = (1000).to_bytes(8, "big")
+    removal = b"\x02" + (2).to_bytes(8, "big") + b"\x00\x01k"
+    equal((folder / log_name(2)).read_bytes(), b"\x01\x01" + removal + b"\x00" + moment + b"\x00", "the second file")
+    equal((folder / log_name(3)).read_bytes(), b"\x01\x01\x00" + moment + b"\x00", "the third file")
+
+
+def test_files_that_are_named_beside_a_compaction(folder):
+    """A line that names a file ends the compaction that is under way, and empties the queue, also where it is idle. The
+    file that is written isn't compacted, unless that end has closed it."""
+    set_folder(folder, "pump = 0\nfile_size = 4096\n")
+    ones, twos, threes = b"1" * 2000, b"2" * 1500, b"3" * 3000
+    check_answers(folder, 1000, [
+        (b"put a " + ones, "ok"),
+        (b"compact 1", "idle"),
+        (b"step index", "idle"),
+        (b"put b " + twos, "ok"),
+        (b"step rotate", "done"),
+        (b"put a " + threes, "ok"),
+        (b"compact 2", "idle"),
+        (b"step compact", "done"),
+        # Its other record doesn't fit behind the one in the second file any more.
+        (b"compact 2", "done"),
+        (b"step index", "done"),
+        (b"step index", "idle"),
+        (b"compact 0", "idle"),
+        (b"compact 1", "idle"),
+        (b"compact 4", "idle"),
+        (b"compact 4294967295", "idle"),
+        (b"compact 4294967296", "refused syntax"),
+        (b"get a", f"value {threes.decode()}"),
+        (b"get b", f"value {twos.decode()}"),
+        (b"stats", counts(2, 4572, 4548)),
+    ])
+    check_files(folder, {3: 1536, 4: 3036})
+    check_answers(folder, 1000, [
+        (b"put c 5", "ok"),
+        (b"step rotate", "done"),
+        (b"put c 6", "ok"),
+        (b"step compact", "done"),
+        (b"compact 5", "idle"),
+        (b"step index", "idle"),
+        (b"step compact", "idle"),
+        (b"keys", "keys a b c"),
+    ])
+    check_files(folder, {3: 1536, 4: 3036, 6: 37})
 
 
 def test_removal_of_one_hash(folder):

@@ -180,7 +180,7 @@ class Parts:
             number = self.files.candidate()
             if not number:
                 return False
-            self.run = (number, list(self.files.records[number]), 0)
+            self.begin(number)
         number, records, done = self.run
         self.run = (number, records, done + 1)
         if done < len(records):
@@ -195,6 +195,25 @@ class Parts:
             self.waiting = min(len(records), self.settings.queue)
             self.run = None
         return True
+
+    def begin(self, number):
+        self.run = (number, list(self.files.records[number]), 0)
+
+    def end(self, moment):
+        """Takes the turns that are left of the compaction that is under way."""
+        while self.run:
+            self.compact(moment)
+
+    def compact_file(self, number, moment):
+        """Ends the compaction that is under way, and takes all turns of one of this file, where it's a closed one then. It
+        gives the answer."""
+        self.end(moment)
+        self.waiting = 0
+        if number not in self.files.sizes or number == self.files.current:
+            return b"idle"
+        self.begin(number)
+        self.end(moment)
+        return b"done"
 
     def count(self):
         """The files were counted: nothing waits for the index then."""
@@ -275,6 +294,10 @@ class Files:
 
     def forget(self, number):
         del self.sizes[number], self.records[number]
+
+    def draw_number(self, choice):
+        """A number that a line may name: mostly that of a file that is there."""
+        return choice.choice([*self.sizes, *self.sizes, *self.sizes, 0, self.made, self.made + 1, 2**32 - 1])
 
     def hash(self, key):
         """The hash of a key: it comes first in the order in which a clear removes keys."""
