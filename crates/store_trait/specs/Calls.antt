@@ -15,6 +15,7 @@ use Rattle.cache_model.specs.declared.replies.Turned.TheVariants.{Idle}
 use Rattle.cache_model.specs.Files.{Image}
 use Rattle.cache_model.specs.Hash.{precedes, follows}
 use Rattle.cache_disk.specs.State.{HostState, Rose, Silent}
+use Rattle.cache_disk.specs.Calls.{AllLeft}
 use Rattle.store_trait.specs.Meaning.{Reading, Content, read_in, seen, key_of, changed, Numbers, StoreFacts, StoreState}
 use Rattle.store_trait.specs.Keeping.{Leaves, Keeps, Opens, IsKept, IsKeptAtMarks, SameContent, IsOnly, IsSettled, SameStore}
 
@@ -191,3 +192,22 @@ pub record CompactedFile (file : ℕ) (f g : StoreFacts) (old new : StoreState) 
   pub marks : OnOk result (IsKeptAtMarks f after.turn old new)
   pub made : MakesFor file f g before after
   pub parts : IfOk result (CompactsIn file f g before after)
+
+-- no more files were made than the compaction of all files takes turns, where the files read so in between
+abbrev pub MakesForAll : StoreFacts → StoreFacts → HostState → HostState → Type 0
+MakesForAll f g before after =
+    (mid : Image) × (turns : ℕ) × MayHaveRead before after mid × f.turns_all before.files mid f.parts turns × (g.made ≤ f.made + turns)
+
+-- the compaction of all files moved the parts, in so many turns, of which each made one file at the most
+abbrev pub CompactsAllIn : StoreFacts → StoreFacts → HostState → HostState → Type 0
+CompactsAllIn f g before after =
+    (mid : Image) × (turns : ℕ) × MayHaveRead before after mid × f.compacts_all before.files mid turns f.parts g.parts × (g.made ≤ f.made + turns)
+
+-- The call of `compact_all` kept the content, at the call's moment and at the mark of each pair that may be left then.
+pub record CompactedAll (f g : StoreFacts) (old new : StoreState) (before after : HostState) (moment : ℕ) (result : Result (Unit {0}) StoreFault) : Type 0 where
+  pub acts : Acts f g old new before after moment old.content result
+  pub content : OnOk result (IsKept f moment old.content new.content)
+  pub marks : OnOk result (IsKeptAtMarks f after.turn old new)
+  pub made : MakesForAll f g before after
+  pub parts : OnOk result (CompactsAllIn f g before after)
+  pub swept : OnOk result (AllLeft after (f.sweeps before.files))

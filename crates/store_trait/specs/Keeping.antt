@@ -93,6 +93,9 @@ pub record SameStore (old new : StoreFacts) : Type 0 where
   pub steps : (files : Image) (kind : StepKind) (turned : Turned) (a b : List Row) → (new.steps files kind turned a b ↔ old.steps files kind turned a b)
   pub compacts : (files mid : Image) (file : ℕ) (turned : Turned) (turns : ℕ) (a b : List Row) → (new.compacts files mid file turned turns a b ↔ old.compacts files mid file turned turns a b)
   pub turns : (files mid : Image) (file : ℕ) (rows : List Row) → new.turns files mid file rows ≡ old.turns files mid file rows
+  pub compacts_all : (files mid : Image) (turns : ℕ) (a b : List Row) → (new.compacts_all files mid turns a b ↔ old.compacts_all files mid turns a b)
+  pub turns_all : (files mid : Image) (rows : List Row) (turns : ℕ) → (new.turns_all files mid rows turns ↔ old.turns_all files mid rows turns)
+  pub sweeps : (files image : Image) → (new.sweeps files image ↔ old.sweeps files image)
   pub counts : (files : Image) (figures : ℕ × ℕ × ℕ) (a b : List Row) → (new.counts files figures a b ↔ old.counts files figures a b)
 
 -- What holds between two calls. The content is among what may be left, of each key and of all together, with each mark

@@ -113,6 +113,13 @@ pub record StoreFacts : Type 1 where
   pub compacts : Image → Image → ℕ → Turned → ℕ → List Row → List Row → Type 0
   -- how many turns it takes at the most from such parts
   pub turns : Image → Image → ℕ → List Row → ℕ
+  -- how they go on by the compaction of all files, in so many turns, where the files read so when it began, and so once the
+  -- compaction that was under way had ended and all files were closed
+  pub compacts_all : Image → Image → ℕ → List Row → List Row → Type 0
+  -- whether it takes so many turns at the most from such parts
+  pub turns_all : Image → Image → List Row → ℕ → Type 0
+  -- what it leaves: how each image behind it is to the files as they read when it began
+  pub sweeps : Image → Image → Type 0
   -- how they go on by a count of the files as they read, which gives how many there are, how many bytes they have, and
   -- how many of these are live
   pub counts : Image → ℕ × ℕ × ℕ → List Row → List Row → Type 0

@@ -157,4 +157,9 @@ impl<H: Host> FileStore<H> for HeapStore {
         self.latest = moment;
         Ok(Turned::Idle)
     }
+
+    fn compact_all(&mut self, _host: &mut H, moment: u64) -> Result<(), StoreFault> {
+        self.latest = moment;
+        Ok(())
+    }
 }

@@ -4,7 +4,7 @@ ghost use Rattle.cache_disk.specs.State.{HostState};
 ghost use Rattle.cache_disk.specs.Calls.{HasStoreCause};
 ghost use Rattle.store_trait.specs.Meaning.{StoreFacts, StoreState, IsChange};
 ghost use Rattle.store_trait.specs.Keeping.{Leaves, Carries, HoldsNow};
-ghost use Rattle.store_trait.specs.Calls.{IsReady, Plainly, DrawsBy, DrawsNone, DrawsOne, Loaded, Walked, Written, SyncedStore, Stepped, Figured, CompactedFile, TakesNone};
+ghost use Rattle.store_trait.specs.Calls.{IsReady, Plainly, DrawsBy, DrawsNone, DrawsOne, Loaded, Walked, Written, SyncedStore, Stepped, Figured, CompactedAll, CompactedFile, TakesNone};
 
 use cache_disk::Host;
 use cache_model::{Answer, Change, Key, StepKind, StoreFault, Turned};
@@ -123,6 +123,19 @@ pub trait FileStore<H: Host>: Store<H> {
         ensures spoilt { OnErr result ((Self.facts self.new).spoilt ≡ true) }
         ensures draws { TakesNone (Self.facts self.old) (Self.facts self.new) result }
         ensures told { IsTrue H.tells → CompactedFile file (Self.facts self.old) (Self.facts self.new)
+            (Self.means self.old (H.state host.old)) (Self.means self.new (H.state host.new)) (H.state host.old) (H.state host.new) moment result }
+        ensures cause { HasStoreCause (H.state host.old) (H.state host.new) result };
+
+    /// Compacts all files: ends a compaction that is under way, closes the current file, and then takes all turns of one
+    /// over each file that is there then, by their numbers. After each fault, also after want of memory, the store may be
+    /// used no more.
+    fn compact_all(&mut self, host: &mut H, moment: u64) -> Result<(), StoreFault>
+        requires ready { IsReady (Self.facts self.old) moment }
+        requires stands { IsTrue H.tells → (Self.means self.old (H.state host.old)).stands }
+        ensures plain { Plainly (Self.facts self.old) (Self.facts self.new) moment result }
+        ensures spoilt { OnErr result ((Self.facts self.new).spoilt ≡ true) }
+        ensures draws { TakesNone (Self.facts self.old) (Self.facts self.new) result }
+        ensures told { IsTrue H.tells → CompactedAll (Self.facts self.old) (Self.facts self.new)
             (Self.means self.old (H.state host.old)) (Self.means self.new (H.state host.new)) (H.state host.old) (H.state host.new) moment result }
         ensures cause { HasStoreCause (H.state host.old) (H.state host.new) result };
 }
