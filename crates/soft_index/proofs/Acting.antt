@@ -1,6 +1,6 @@
 -- What an action of a compaction is to the store.
-use Rattle.std.proofs.Common.{◌≡◌, ℕ, ◌≤◌, true, false, List, [], ◌∷◌, length, min, Option, Some, None, IsSome, refl, sym, ◌∙◌, ap, subst}
-use Rattle.std.specs.Prelude.{Result, Ok, Err, IfOk, MatchOption, count_by, unwrap_or}
+use Rattle.std.proofs.Common.{◌≡◌, ℕ, ◌≤◌, true, false, List, [], ◌∷◌, length, min, Option, Some, None, IsSome, refl, sym, ◌∙◌, ap, subst, arith}
+use Rattle.std.specs.Prelude.{Result, Ok, Err, IfOk, OnOk, MatchOption, count_by, unwrap_or}
 use Rattle.cache_model.specs.declared.faults.StoreFault.{StoreFault}
 use Rattle.cache_model.specs.declared.files.FileName.{FileName}
 use Rattle.cache_model.specs.Files.{bytes_in, file_in}
@@ -21,7 +21,7 @@ use Rattle.store_trait.proofs.Runs.{store_trans}
 use Rattle.soft_index.specs.declared.log_store.LogStore.{LogStore}
 use Rattle.soft_index.specs.declared.running.Run.{Run}
 use Rattle.soft_index.specs.RunLaws.{runs_on}
-use Rattle.soft_index.specs.Running.{ActsOr, ActsRows, HasActed, HasRead, HoldsRun, IsStill, KeepsFile}
+use Rattle.soft_index.specs.Running.{ActsOr, ActsRows, HasActed, HasRead, HoldsRun, IsStill, KeepsFile, KeepsFiles}
 use Rattle.soft_index.specs.Store.{content_of, current_of, log_facts, number, row_of, writer}
 use Rattle.soft_index.specs.Taken.{IsTakenIn}
 use Rattle.soft_index.proofs.Carrying.{limit_same}
@@ -44,7 +44,7 @@ held_later run S moment a b late still held =
 
 -- an action that failed
 pub acted_failed : (run : Run) (S T : LogStore) (a b : HostState) (moment : ℕ) (f : StoreFault) → ActsOr {R = Option Run} S T a b moment (Err f) → HasActed run S T a b moment (Err f)
-acted_failed run S T a b moment f acts = record { acts = acts; content = tt; held = tt; stays = tt; rows = tt }
+acted_failed run S T a b moment f acts = record { acts = acts; content = tt; held = tt; stays = tt; files = tt; rows = tt }
 
 -- an action behind a read
 pub acted_later : (run : Run) (S T : LogStore) (a b c : HostState) (moment : ℕ) (result : Result (Option Run) StoreFault) → S.parts.spoilt ≡ false → S.latest ≤ moment → disk.Stands a b → HoldsRun (Some run) S a
@@ -57,6 +57,7 @@ acted_later run S T a b c moment result sound late still held acted =
       content = content_chain (content_of S a.files) (content_of M b.files) (content_of T c.files) result before.content acted.content;
       held = acted.held;
       stays = kept result acted.stays;
+      files = on result acted.files;
       rows = by result acted.rows;
     }
   where
@@ -64,9 +65,13 @@ acted_later run S T a b c moment result sound late still held acted =
     same = ap (λ (f : Option (List ℕ)). count_by (λ one. is_record one.1) (counted_items (unwrap_or f []))) (still.files (log_name run.file))
 
     kept : (r : Result (Option Run) StoreFault) → IfOk r (λ next. KeepsFile run next b c) → IfOk r (λ next. KeepsFile run next a c)
-    kept (Ok None) is = tt
+    kept (Ok None) is = is
     kept (Ok (Some next)) is = is ∙ still.files (log_name run.file)
     kept (Err f) is = tt
+
+    on : (r : Result (Option Run) StoreFault) → OnOk r (KeepsFiles (Some run.file) (record S { latest = moment }) T b.files c.files) → OnOk r (KeepsFiles (Some run.file) S T a.files c.files)
+    on (Ok next) is = record { later = is.later; below = λ n less apart. is.below n less apart ∙ still.files (log_name n) }
+    on (Err f) is = tt
 
     by : (r : Result (Option Run) StoreFault) → IfOk r (λ next. ActsRows S.parts.requests.limit (counted_records b.files run.file) run next (log_facts S).parts (log_facts T).parts)
         → IfOk r (λ next. ActsRows S.parts.requests.limit (counted_records a.files run.file) run next (log_facts S).parts (log_facts T).parts)
@@ -94,7 +99,11 @@ reclaimed run S M N T a b c d moment held stamped same first_log first_still fir
   content = content_chain {R = Option Run} (content_of S a.files) (content_of M b.files) (content_of T d.files) (Ok None) first.content
       (content_chain {R = Option Run} (content_of M b.files) (content_of N c.files) (content_of T d.files) (Ok None) taken.content last.content);
   held = record { frames = held.frames; records = held.records; log = last.kept; runs = tt; zero = zero };
-  stays = tt;
+  stays = last_still.files (log_name run.file) ∙ taken.gone;
+  files = record {
+    later = omega (arith, ap (λ (F : LogFiles). number_of F) last_log, ap (λ (F : LogFiles). number_of F) first_log, taken.current);
+    below = λ n less apart. last_still.files (log_name n) ∙ taken.others (log_name n) (other_name run.file n apart) ∙ first_still.files (log_name n);
+  };
   rows = reclaimed_rows S.parts.requests.limit run S a.files held.frames held.records (length S.parts.requests.waiting) (length T.parts.requests.waiting) (current_of (writer S) (number S)) (log_facts T).parts held.runs stamped
       (queued ∙ ap (λ (n : ℕ). min (length run.looked.items) n) limits) (ap (λ (c : Option ℕ). row_of (length T.parts.requests.waiting) c) current);
 }

@@ -1,6 +1,6 @@
 -- A compaction of the candidate is begun.
 use Rattle.std.proofs.Common.{◌==◌, eqb, ◌≡◌, ℕ, zero, suc, ◌+◌, ◌≤◌, ◌<◌, Bool, true, false, List, [], length, Contains, Option, Some, None, IsSome, refl, sym, ◌∙◌, ap, subst, arith}
-use Rattle.std.specs.Prelude.{Result, Ok, Err, IfSome, IsErrOf, OnOk, map, if◌then◌else◌}
+use Rattle.std.specs.Prelude.{Ok, Err, IfSome, IsErrOf, OnOk, if◌then◌else◌}
 use Rattle.std.specs.Option.{option_eq}
 use Rattle.std.proofs.lemmas.Bool.{false≢true}
 use Rattle.std.proofs.lemmas.Bool.Decides.{nat_tests}
@@ -10,14 +10,13 @@ use Rattle.cache_model.specs.declared.faults.Spent.{Spent}
 use Rattle.cache_model.specs.declared.faults.StoreFault.{StoreFault}
 use Rattle.cache_model.specs.declared.faults.StoreFault.TheVariants as fault
 use Rattle.cache_model.specs.declared.files.FileCount.{FileCount}
-use Rattle.cache_model.specs.Files.{Image, bytes_in, file_in}
+use Rattle.cache_model.specs.Files.{Image, file_in}
 use Rattle.cache_model.specs.Items.{Item}
-use Rattle.cache_model.specs.DataFiles.{Frame, found_in}
+use Rattle.cache_model.specs.DataFiles.{Frame}
 use Rattle.cache_model.specs.Images.{log_name}
 use Rattle.cache_disk.specs.State.{HostState}
 use Rattle.cache_disk.specs.State as disk
 use Rattle.data_file.specs.declared.appender.Appender.{Appender}
-use Rattle.data_file.specs.Scanning.{IsScanOf, rest_of}
 use Rattle.append_log.specs.Current.{files_of, next_file, number_of}
 use Rattle.file_stats.specs.Figures.{IsLeastCandidate, numbers_of}
 use Rattle.temporary_table.specs.declared.requests.Request.{Request}

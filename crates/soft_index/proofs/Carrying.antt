@@ -15,7 +15,7 @@ use Rattle.store_trait.specs.Keeping.{IsOnly, IsSettled, SameStore}
 use Rattle.store_trait.specs.Calls.{Acts, DrawsBy, DrawsNone, DrawsOne, Figured, Loaded, Plainly, Stepped, SyncedStore, Walked, Written}
 use Rattle.soft_index.specs.declared.compacting.CompactingStore.{CompactingStore}
 use Rattle.soft_index.specs.declared.log_store.LogStore.{LogStore}
-use Rattle.soft_index.specs.Compacting.{ByRun, CompactsFile, CountsBy, Run, row_under, with_run}
+use Rattle.soft_index.specs.Compacting.{ByRun, CompactsAll, CompactsFile, CountsBy, Run, row_under, with_run}
 use Rattle.soft_index.specs.Growing.{Grows}
 use Rattle.soft_index.specs.Running.{HoldsRun, MayGoOn, run_of}
 use Rattle.soft_index.specs.RunLaws.{runs_on}
@@ -74,6 +74,9 @@ module _ (store : CompactingStore) (M : LogStore) where
         steps = λ files kind turned a b. (subst (λ (n : ℕ). StepsIn n store.threshold files kind turned a b) limit, subst (λ (n : ℕ). StepsIn n store.threshold files kind turned a b) (sym limit));
         compacts = λ files mid file turned turns a b. (subst (λ (n : ℕ). CompactsFile n files mid file turned turns a b) limit, subst (λ (n : ℕ). CompactsFile n files mid file turned turns a b) (sym limit));
         turns = λ files mid file rows. refl;
+        compacts_all = λ files mid turns a b. (subst (λ (n : ℕ). CompactsAll n files mid turns a b) limit, subst (λ (n : ℕ). CompactsAll n files mid turns a b) (sym limit));
+        turns_all = λ files mid rows turns. (λ z. z, λ z. z);
+        sweeps = λ files image. (λ z. z, λ z. z);
         counts = same.counts;
       }
 

@@ -240,6 +240,9 @@ module _ (key : List ℕ) (from : Place) (gone : Bool) (spelled : List ℕ) (mom
         steps = λ files kind turned x y. (λ z. z, λ z. z);
         compacts = λ files mid file turned turns x y. (λ z. z, λ z. z);
         turns = λ files mid file rows. refl;
+        compacts_all = λ files mid turns a b. (λ z. z, λ z. z);
+        turns_all = λ files mid rows turns. (λ z. z, λ z. z);
+        sweeps = λ files image. (λ z. z, λ z. z);
         counts = λ files figures x y. (λ z. z, λ z. z);
       };
       usable = λ unspoilt. let no : true ≡ false = sym spoilt ∙ unspoilt in cc;

@@ -1,6 +1,6 @@
 -- How a compaction that is under way comes to its end.
-use Rattle.std.proofs.Common.{◌≡◌, ◌⊎◌, ⊎_elim, inl, inr, ℕ, ◌+◌, ◌-◌, ◌≤◌, ◌<◌, true, false, List, [], min, Option, Some, None, IsSome, refl, sym, ◌∙◌, ap, subst, arith}
-use Rattle.std.specs.Prelude.{Result, Ok, Err, count_by, unwrap_or}
+use Rattle.std.proofs.Common.{◌≡◌, ◌⊎◌, ⊎_elim, inl, inr, ℕ, ◌+◌, ◌-◌, ◌≤◌, ◌<◌, false, List, [], min, Option, Some, None, IsSome, refl, sym, ◌∙◌, ap, subst, arith}
+use Rattle.std.specs.Prelude.{Ok, Err, count_by, unwrap_or}
 use Rattle.cache_model.specs.declared.faults.StoreFault.{StoreFault}
 use Rattle.cache_model.specs.declared.replies.Turned.{Turned}
 use Rattle.cache_model.specs.Files.{Image, file_in}
@@ -12,17 +12,16 @@ use Rattle.compactor.specs.Recounting.{counted_records, is_record}
 use Rattle.store_trait.specs.Meaning.{Row}
 use Rattle.store_trait.specs.Keeping.{SameContent, SameStore}
 use Rattle.soft_index.specs.declared.compacting.CompactingStore.{CompactingStore}
-use Rattle.soft_index.specs.declared.log_store.LogStore.{LogStore}
 use Rattle.soft_index.specs.declared.running.Run.{Run}
 use Rattle.soft_index.specs.Compacting.{TakesAction, turns_left}
 use Rattle.soft_index.specs.Copied.{MakesFile}
-use Rattle.soft_index.specs.Running.{ActsOr, ActsRows, HoldsRun, KeepsFile, run_of, turns_done}
-use Rattle.soft_index.specs.Store.{content_of, current_of, log_facts, number, row_of, writer}
-use Rattle.soft_index.specs.Turns.{EndsRows, HasEnded, HasGoneOn, MakesUpTo}
+use Rattle.soft_index.specs.Running.{ActsOr, ActsRows, HoldsRun, IsApart, KeepsFile, KeepsFiles, file_of, run_of, turns_done}
+use Rattle.soft_index.specs.Store.{content_of, log_facts, row_of}
+use Rattle.soft_index.specs.Turns.{EndsRows, HasEnded, HasGoneOn, IsGone, MakesUpTo}
 use Rattle.soft_index.proofs.Acting.{held_later}
 use Rattle.soft_index.proofs.Carrying.{limit_same}
-use Rattle.soft_index.proofs.Chaining.{acts_chain, acts_err, acts_ok, content_chain}
-use Rattle.soft_index.proofs.Indexing.{same_current, same_queued}
+use Rattle.soft_index.proofs.Chaining.{acts_chain, acts_err, acts_ok}
+use Rattle.soft_index.proofs.Indexing.{same_current}
 use Rattle.soft_index.proofs.Lowered.{later_still}
 use Rattle.soft_index.proofs.RunRows.{done_within}
 
@@ -60,6 +59,23 @@ pub record HasGone (S X : CompactingStore) (a c : HostState) (moment : ℕ) : Ty
   pub made : MakesUpTo turns S.log X.log
   pub left : turns + turns_left c.files (run_of X.run) ≡ turns_left a.files (run_of S.run)
   pub goes : GoesTo S.log.parts.requests.limit a.files c.files S.run X.run (log_facts S.log).parts (log_facts X.log).parts
+  pub files : KeepsFiles (file_of S.run) S.log X.log a.files c.files
+  pub gone : X.run ≡ None → IsGone S.run c.files
+
+-- where there is none, nothing has to be gone
+none_gone : (run : Option Run) (files : Image) → run ≡ None → IsGone run files
+none_gone None files none = tt
+none_gone (Some run) files none = cc
+
+-- a compaction goes on over its file
+apart_on : (limit : ℕ) (files later : Image) (s : Option Run) (x : Run) (rows mid : List Row) → GoesTo limit files later s (Some x) rows mid → (n : ℕ) → IsApart (file_of s) n → n ≡ x.file → ⊥
+apart_on limit files later None x rows mid goes n apart = absurd goes
+apart_on limit files later (Some run) x rows mid goes n apart = λ is. apart (is ∙ goes.0)
+
+-- behind its last turn that is gone
+gone_on : (limit : ℕ) (files later after : Image) (s : Option Run) (x : Run) (rows mid : List Row) → GoesTo limit files later s (Some x) rows mid → file_in after (log_name x.file) ≡ None → IsGone s after
+gone_on limit files later after None x rows mid goes none = tt
+gone_on limit files later after (Some run) x rows mid goes none = subst (λ (n : ℕ). file_in after (log_name n) ≡ None) goes.0 none
 
 -- by none
 starts : (limit : ℕ) (files : Image) (run : Option Run) (queued : ℕ) (current : Option ℕ) → ((one : Run) → run ≡ Some one → turns_done one ≤ counted_records files one.file + 1) → GoesTo limit files files run run (row_of queued current) (row_of queued current)
@@ -77,6 +93,8 @@ gone_none S a moment sound late held =
       made = omega arith;
       left = omega arith;
       goes = starts S.log.parts.requests.limit a.files S.run _ _ (within S.run held);
+      files = record { later = omega arith; below = λ n less apart. refl };
+      gone = none_gone S.run a.files;
     }
   where
     within : (run : Option Run) → HoldsRun run S.log a → (one : Run) → run ≡ Some one → turns_done one ≤ counted_records a.files one.file + 1
@@ -208,6 +226,13 @@ module _ (S X : CompactingStore) (a c : HostState) (moment : ℕ) (gone : HasGon
           made = omega (arith, gone.made, makes.made);
           left = omega (arith, left, step.1);
           goes = step.0;
+          files = record {
+            later = omega (arith, gone.files.later, on.files.later);
+            below = λ n less apart.
+                on.files.below n (omega (arith, less, gone.files.later)) (apart_on S.log.parts.requests.limit a.files c.files S.run x (log_facts S.log).parts (log_facts X.log).parts before n apart) ∙ gone.files.below n less apart;
+          };
+          gone = λ none.
+              gone_on S.log.parts.requests.limit a.files c.files d.files S.run x (log_facts S.log).parts (log_facts X.log).parts before (subst (λ (r : Option Run). KeepsFile x r c d) none on.stays);
         }
 
     pub gone_failed : (f : StoreFault) → MakesFile {R = Turned} X.log T.log (Err f) → HasGoneOn x (record X { run = taken }) T c d moment (Err f) → HasEnded S T a d moment (Err f)
@@ -216,6 +241,8 @@ module _ (S X : CompactingStore) (a c : HostState) (moment : ℕ) (gone : HasGon
       content = tt;
       held = tt;
       made = omega (arith, gone.made, makes.made, left, left_some S.log.parts.requests.limit a.files c.files S.run x (log_facts S.log).parts (log_facts X.log).parts before);
+      files = tt;
+      gone = tt;
       rows = tt;
     }
 
@@ -225,6 +252,8 @@ module _ (S X : CompactingStore) (a c : HostState) (moment : ℕ) (gone : HasGon
     content = gone.content;
     held = subst (λ (r : Option Run). HoldsRun r X.log c) none gone.held;
     made = omega (arith, gone.made, subst (λ (r : Option Run). gone.turns + turns_left c.files (run_of r) ≡ turns_left a.files (run_of S.run)) none gone.left);
+    files = gone.files;
+    gone = gone.gone none;
     rows = goes_ended S.log.parts.requests.limit a.files c.files S.run (log_facts S.log).parts (log_facts X.log).parts
         (subst (λ (r : Option Run). GoesTo S.log.parts.requests.limit a.files c.files S.run r (log_facts S.log).parts (log_facts X.log).parts) none gone.goes);
   }

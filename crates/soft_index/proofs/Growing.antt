@@ -51,6 +51,8 @@ module _ (S T : LogStore) (before after : Image) (file : number T ≡ number S) 
     closed = λ n other there. (λ is. other (is ∙ file), same n other);
     written = written;
     zero = λ none. zero ∙ none;
+    later = omega (arith, file);
+    below = λ n less. same n (λ is. omega (arith, is, less));
     sealed = held_here (placed_of frames []) (placed_of fs []) sealed_in;
   }
 
@@ -81,6 +83,8 @@ pub grows_closed_to : (S T : LogStore) (a b : HostState) (frames fs : List Frame
 grows_closed_to S T a b frames fs records rs stands some file same kept = record {
   closed = λ n other there. (apart n there, same n other (apart n there));
   zero = λ none. same 0 (λ is. omega (arith, is, some)) (λ is. omega (arith, is, file)) ∙ none;
+  later = omega (arith, file);
+  below = λ n less. same n (λ is. omega (arith, is, less)) (λ is. omega (arith, is, less, file));
   written = λ n at item key is of_key. onward rs n at item (kept n at item is);
   sealed = λ n at item is. onward [] n at item (kept n at item (⊎_elim (λ here. inl (here.0, sealed_within frames records at item here.1)) (λ other. inr other) is));
 }
@@ -117,6 +121,8 @@ grows_both S T U a b c frames records one two = record {
         (second.0, second.1 ∙ first.1);
     written = λ n at item key is of_key. two.grows.written n at item key (one.grows.written n at item key is of_key) of_key;
     zero = λ none. two.grows.zero (one.grows.zero none);
+    later = omega (arith, one.grows.later, two.grows.later);
+    below = λ n less. two.grows.below n (omega (arith, less, one.grows.later)) ∙ one.grows.below n less;
     sealed = λ n at item is. two.grows.sealed n at item (one.grows.sealed n at item is);
   };
 }

@@ -32,6 +32,9 @@ pub mod There
 pub mod Turned
 pub mod Turning
 pub mod Whole
+mod Over
+mod Swept
+mod Every
 pub mod Without
 pub mod Written
 pub mod Carrying

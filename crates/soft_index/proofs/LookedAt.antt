@@ -181,6 +181,9 @@ looks_plain S T moment x looks latest sync =
         steps = λ files kind turned a b. (λ x. x, λ x. x);
         compacts = λ files mid file turned turns a b. (λ x. x, λ x. x);
         turns = λ files mid file rows. refl;
+        compacts_all = λ files mid turns a b. (λ z. z, λ z. z);
+        turns_all = λ files mid rows turns. (λ z. z, λ z. z);
+        sweeps = λ files image. (λ z. z, λ z. z);
         counts = λ files figures a b. (λ x. x, λ x. x);
       };
       usable = looks.usable;

@@ -60,7 +60,7 @@ pub record HasLowered (S T : LogStore) (moment count : ℕ) : Type 0 where
 pub latest_same : (S : LogStore) (moment : ℕ) → SameStore (log_facts S) (log_facts (record S { latest = moment }))
 latest_same S moment =
     let same = store_same (log_facts S) in
-    record { bits = same.bits; owns = same.owns; ordered = same.ordered; firm = same.firm; forgets = same.forgets; moves = same.moves; empties = same.empties; room = same.room; steps = same.steps; compacts = same.compacts; turns = same.turns; counts = same.counts }
+    record { bits = same.bits; owns = same.owns; ordered = same.ordered; firm = same.firm; forgets = same.forgets; moves = same.moves; empties = same.empties; room = same.room; steps = same.steps; compacts = same.compacts; turns = same.turns; compacts_all = same.compacts_all; turns_all = same.turns_all; sweeps = same.sweeps; counts = same.counts }
 
 -- before the first key
 pub lowered_first : (S : LogStore) (moment : ℕ) → IsReady (log_facts S) moment → S.parts.requests.waiting ≡ [] → HasLowered S (record S { latest = moment }) moment 0
@@ -124,6 +124,9 @@ module _ (S T : LogStore) (key : List ℕ) (notes : NotesLess key S.parts T.part
       steps = λ files kind turned a b. (λ x. x, λ x. x);
       compacts = λ files mid file turned turns a b. (λ x. x, λ x. x);
       turns = λ files mid file rows. refl;
+      compacts_all = λ files mid turns a b. (λ z. z, λ z. z);
+      turns_all = λ files mid rows turns. (λ z. z, λ z. z);
+      sweeps = λ files image. (λ z. z, λ z. z);
       counts = λ files figures a b. (λ x. x, λ x. x);
     };
     usable = λ unspoilt. notes.usable ready.usable;

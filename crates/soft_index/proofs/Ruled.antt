@@ -11,7 +11,7 @@ use Rattle.cache_model.specs.declared.faults.StoreFault.{StoreFault}
 use Rattle.cache_disk.specs.State.{HostState}
 use Rattle.store_trait.specs.Meaning.{Reading, Content, read_in, key_of, changed, StoreFacts, StoreState}
 use Rattle.store_trait.specs.Keeping.{Keeps, IsOnly, IsSettled, IsKept, IsKeptAtMarks}
-use Rattle.store_trait.specs.Calls.{Acts, Plainly, DrawsNone, DrawsOne, DrawsBy, IsAnswer, Walked, Written, SyncedStore, Stepped, CompactedFile, Figured, known_bytes}
+use Rattle.store_trait.specs.Calls.{Acts, Plainly, DrawsNone, DrawsOne, DrawsBy, IsAnswer, Walked, Written, SyncedStore, Stepped, CompactedAll, CompactedFile, Figured, known_bytes}
 use Rattle.store_trait.proofs.Alike.{alike_weaker}
 use Rattle.store_trait.proofs.Runs.{old_weaker, new_weaker, old_whole_weaker, new_whole_weaker}
 use Rattle.std.specs.Fn.{Shared}
@@ -69,6 +69,9 @@ module _ (f g : StoreFacts) (u v : Type 0) (forgets : List ℕ → Type 0)
       steps = plain.same.steps;
       compacts = plain.same.compacts;
       turns = plain.same.turns;
+      compacts_all = plain.same.compacts_all;
+      turns_all = plain.same.turns_all;
+      sweeps = plain.same.sweeps;
       counts = plain.same.counts;
     };
     usable = λ unspoilt. usable (plain.usable unspoilt);
@@ -185,6 +188,24 @@ module _ (f g : StoreFacts) (u v : Type 0) (forgets : List ℕ → Type 0)
       kept (Err e) is = tt
 
       marked : (given : Result Turned StoreFault) → OnOk given (IsKeptAtMarks f b.turn old new) → OnOk given (IsKeptAtMarks before b.turn old new)
+      marked (Ok x) is = λ key r m may. alike_weaker (f.forgets key) (forgets key) m (read_in new.content key) (read_in old.content key) (few key) (is key r m may)
+      marked (Err e) is = tt
+
+  pub compacted_all_ruled : (old new : StoreState) (a b : HostState) (moment : ℕ) (result : Result (Unit {0}) StoreFault) → CompactedAll f g old new a b moment result → CompactedAll before after old new a b moment result
+  compacted_all_ruled old new a b moment result compacted = record {
+    acts = acts_ruled old new a b moment old.content result compacted.acts;
+    content = kept result compacted.content;
+    marks = marked result compacted.marks;
+    made = compacted.made;
+    parts = compacted.parts;
+    swept = compacted.swept;
+  }
+    where
+      kept : (given : Result (Unit {0}) StoreFault) → OnOk given (IsKept f moment old.content new.content) → OnOk given (IsKept before moment old.content new.content)
+      kept (Ok x) is = λ key. alike_weaker (f.forgets key) (forgets key) moment (read_in new.content key) (read_in old.content key) (few key) (is key)
+      kept (Err e) is = tt
+
+      marked : (given : Result (Unit {0}) StoreFault) → OnOk given (IsKeptAtMarks f b.turn old new) → OnOk given (IsKeptAtMarks before b.turn old new)
       marked (Ok x) is = λ key r m may. alike_weaker (f.forgets key) (forgets key) m (read_in new.content key) (read_in old.content key) (few key) (is key r m may)
       marked (Err e) is = tt
 

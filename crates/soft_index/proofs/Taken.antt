@@ -148,6 +148,7 @@ module _ (S : LogStore) (a b : HostState) (frames : List Frame) (records : List 
         taken = now;
         gone = away.gone;
         others = away.files;
+        current = refl;
       }
 
   pub untaken_told : (f : StoreFault) → IsHostly f → TakesAway {R = Unit {0}} (log_name file) a b (Err f)
@@ -163,4 +164,5 @@ module _ (S : LogStore) (a b : HostState) (frames : List Frame) (records : List 
         taken = tt;
         gone = tt;
         others = away.files;
+        current = refl;
       }

@@ -10,7 +10,7 @@ use Rattle.cache_disk.specs.State.{HostState}
 use Rattle.compactor.specs.Recounting.{counted_records, is_record}
 use Rattle.store_trait.specs.Meaning.{Row}
 use Rattle.store_trait.specs.Keeping.{SameStore}
-use Rattle.store_trait.specs.Calls.{Acts, CompactedFile, Plainly, Stepped}
+use Rattle.store_trait.specs.Calls.{Acts, CompactedAll, CompactedFile, Plainly, Stepped}
 use Rattle.store_trait.proofs.Runs.{kept_same}
 use Rattle.soft_index.specs.declared.compacting.CompactingStore.{CompactingStore}
 use Rattle.soft_index.specs.declared.log_store.LogStore.{LogStore}
@@ -19,6 +19,7 @@ use Rattle.soft_index.specs.Compacting.{CompactsBy, with_run}
 use Rattle.soft_index.specs.Running.{ActsOr, ActsRows, HasBegun, HoldsRun, MayGoOn, run_of, spoil}
 use Rattle.soft_index.specs.Steps.{StepsIn}
 use Rattle.soft_index.specs.Store.{content_of, log_facts}
+use Rattle.soft_index.specs.Sweeping.{HasCompactedAll}
 use Rattle.soft_index.specs.Turns.{HasCompacted, HasGoneOn, HasTurned, run_facts, run_means}
 use Rattle.soft_index.proofs.Carrying.{limit_same, same_run}
 use Rattle.soft_index.proofs.Chaining.{acts_chain, acts_err, acts_ok, content_chain}
@@ -46,6 +47,9 @@ plain_turned S T moment result threshold may plain =
         );
         compacts = same.compacts;
         turns = same.turns;
+        compacts_all = same.compacts_all;
+        turns_all = same.turns_all;
+        sweeps = same.sweeps;
         counts = same.counts;
       };
       usable = λ sound. (plain.usable sound, may);
@@ -179,3 +183,17 @@ compacted_file file S T a b moment turned is = record {
 pub compacted_fault : (file : ℕ) (S T : CompactingStore) (a b : HostState) (moment : ℕ) (f : StoreFault) → HasCompacted file S T a b moment (Err f)
     → CompactedFile file (run_facts S) (run_facts (record T { log = spoil T.log })) (run_means S a) (run_means (record T { log = spoil T.log }) b) a b moment (Err f)
 compacted_fault file S T a b moment f is = record { acts = run_acts_fault {R = Turned} S T a b moment f is.acts; content = tt; marks = tt; made = is.made; parts = tt }
+
+pub compacted_all : (S T : CompactingStore) (a b : HostState) (moment : ℕ) → HasCompactedAll S T a b moment (Ok tt) → CompactedAll (run_facts S) (run_facts T) (run_means S a) (run_means T b) a b moment (Ok tt)
+compacted_all S T a b moment is = record {
+  acts = run_acts {R = Unit {0}} S T a b moment tt is.held is.acts;
+  content = kept_same (run_facts S) moment (content_of S.log a.files) (content_of T.log b.files) is.content;
+  marks = λ key r m may. inl (is.content key);
+  made = is.made;
+  parts = is.parts;
+  swept = is.swept;
+}
+
+pub compacted_all_fault : (S T : CompactingStore) (a b : HostState) (moment : ℕ) (f : StoreFault) → HasCompactedAll S T a b moment (Err f)
+    → CompactedAll (run_facts S) (run_facts (record T { log = spoil T.log })) (run_means S a) (run_means (record T { log = spoil T.log }) b) a b moment (Err f)
+compacted_all_fault S T a b moment f is = record { acts = run_acts_fault {R = Unit {0}} S T a b moment f is.acts; content = tt; marks = tt; made = is.made; parts = tt; swept = tt }

@@ -228,6 +228,20 @@ pub turned_grows : (turned : Turned) (S T : LogStore) (a b : HostState) (frames 
 turned_grows turned S T a b frames records moment stands late latest ready usable main takes is told same counts =
     (turned_holds turned S T a b frames records moment stands late latest ready usable main takes is told same counts).grown
 
+pub turned_content : (turned : Turned) (S T : LogStore) (a b : HostState) (frames : List Frame) (records : List Item) (moment : ℕ)
+    → (stands : LogStands S a frames records)
+    → S.latest ≤ moment → T.latest ≡ moment
+    → IsUsableLog (files_of S.parts.log) → IsUsableLog (files_of T.parts.log) → store_of (files_of T.parts.log) ≡ 0
+    → TakesNone (files_of S.parts.log) (files_of T.parts.log)
+    → IsTurned moment turned (files_of S.parts.log) (files_of T.parts.log)
+    → Seals moment (record { closed = stands.log.0; frames = frames; records = records }) (λ t. turned_held t (waiting S) (number S) moment (record { closed = stands.log.0; frames = frames; records = records })) (main_files S) (files_of T.parts.log) a b (Ok turned)
+    → SameParts S T
+    → CountsWritten (tail_of (files_of S.parts.log)) (tail_of (files_of T.parts.log)) S.parts.stats T.parts.stats
+    → SameContent (content_of S a.files) (content_of T b.files)
+turned_content turned S T a b frames records moment stands late latest ready usable main takes is told same counts =
+    let now = turned_holds turned S T a b frames records moment stands late latest ready usable main takes is told same counts in
+    content_same S T a b frames now.grown.fs records now.grown.rs stands now.grown.holds now.same
+
 pub turned_told : (turned : Turned) (S T : LogStore) (a b : HostState) (frames : List Frame) (records : List Item) (moment : ℕ)
     → (stands : LogStands S a frames records)
     → S.parts.spoilt ≡ false → S.latest ≤ moment → T.latest ≡ moment
@@ -241,7 +255,7 @@ pub turned_told : (turned : Turned) (S T : LogStore) (a b : HostState) (frames :
 turned_told turned S T a b frames records moment stands sound late latest ready usable main takes is told same counts =
     let held : Held = record { closed = stands.log.0; frames = frames; records = records } in
     let now = turned_holds turned S T a b frames records moment stands late latest ready usable main takes is told same counts in
-    let content : SameContent (content_of S a.files) (content_of T b.files) = content_same S T a b frames now.grown.fs records now.grown.rs stands now.grown.holds now.same in
+    let content = turned_content turned S T a b frames records moment stands late latest ready usable main takes is told same counts in
     record {
       acts = sealing_acts S T a b frames records moment stands.log.0 (λ (t : Turned). turned_held t (waiting S) (number S) moment held) (files_of T.parts.log) (Ok turned) stands sound late latest told (λ unspoilt. content)
           (λ unspoilt. (now.grown.fs, now.grown.rs, now.grown.holds))

@@ -1,8 +1,10 @@
 -- How compaction and counting move the parts of the store.
-use Rattle.std.specs.Prelude.{◌≡◌, ◌⊎◌, ℕ, ◌+◌, ◌-◌, ◌<◌, min, List, [], ◌∷◌, map, Option, Some, None, IsSome}
+use Rattle.std.specs.Prelude.{◌≡◌, ◌⊎◌, ◌↔◌, ℕ, ◌+◌, ◌-◌, ◌<◌, min, List, [], ◌∷◌, map, sum_by, Contains, Option, Some, None, IsSome}
+use Rattle.std.specs.List.Sorted.{IsStrictlyIncreasing}
 use Rattle.cache_model.specs.declared.replies.Turned.{Turned}
 use Rattle.cache_model.specs.declared.replies.Turned.TheVariants.{Done, Idle}
-use Rattle.cache_model.specs.Files.{Image}
+use Rattle.cache_model.specs.Files.{Image, file_in}
+use Rattle.cache_model.specs.Images.{log_name}
 use Rattle.compactor.specs.Recounting.{IsCandidateOf, IsRecount, IsClosedFile, counted_records}
 use Rattle.store_trait.specs.Meaning.{Row}
 
@@ -86,6 +88,46 @@ CompactsFile limit files mid file Done turns a b =
 CompactsFile limit files mid file Idle turns a b =
     (queued : ℕ) × (current : Option ℕ) × (run : Run) × (then : Option ℕ) × (a ≡ row_with queued current run) × IsCurrentBehind files run current then × (IsClosedFile mid then file → ⊥)
     × (turns ≡ turns_left files run) × (b ≡ row_with 0 then None)
+
+-- the numbers of the data files
+pub record AreDataFiles (files : Image) (numbers : List ℕ) : Type 0 where
+  pub ascend : IsStrictlyIncreasing numbers
+  pub each : (n : ℕ) → (Contains numbers n ↔ IsSome (file_in files (log_name n)))
+
+-- how many turns runs over these files take
+abbrev pub turns_over : Image → List ℕ → ℕ
+turns_over files numbers = sum_by (λ n. counted_records files n + 2) numbers
+
+-- how many requests wait behind runs over these files, where so many wait before: as many as the last one has records
+abbrev pub waiting_behind : ℕ → Image → ℕ → List ℕ → ℕ
+waiting_behind limit files queued [] = queued
+waiting_behind limit files queued (number ∷ numbers) = waiting_behind limit files (min (counted_records files number) limit) numbers
+
+-- the current file behind runs over these files: there is one, unless there was no run
+abbrev pub IsCurrentAfter : List ℕ → Option ℕ → Option ℕ → Type 0
+IsCurrentAfter [] current now = now ≡ current
+IsCurrentAfter (number ∷ numbers) current now = IsSome now
+
+-- the run that is under way in some parts
+abbrev pub run_in : List Row → Run
+run_in [] = None
+run_in (row ∷ rows) = row.run
+
+-- how many turns the compaction of all files takes: those that end a run that is under way, and those of a run over each
+-- file that is there once that has ended and the current file is closed
+abbrev pub TurnsAll : Image → Image → List Row → ℕ → Type 0
+TurnsAll files mid rows turns = (numbers : List ℕ) × AreDataFiles mid numbers × (turns ≡ turns_left files (run_in rows) + turns_over mid numbers)
+
+-- How the compaction of all files moves the parts, in so many turns: it ends a run that is under way, closes the current
+-- file, behind which the files read so, empties the queue, and takes all turns of a run over each file.
+abbrev pub CompactsAll : ℕ → Image → Image → ℕ → List Row → List Row → Type 0
+CompactsAll limit files mid turns a b =
+    (queued : ℕ) × (current : Option ℕ) × (run : Run) × (numbers : List ℕ) × (now : Option ℕ) × (a ≡ row_with queued current run) × AreDataFiles mid numbers
+    × (turns ≡ turns_left files run + turns_over mid numbers) × IsCurrentAfter numbers None now × (b ≡ row_with (waiting_behind limit mid 0 numbers) now None)
+
+-- what the compaction of all files leaves: no file is in the image that was there before
+abbrev pub IsSwept : Image → Image → Type 0
+IsSwept files image = (n : ℕ) → IsSome (file_in files (log_name n)) → file_in image (log_name n) ≡ None
 
 -- how counting moves the parts: the queue is emptied, and the figures are those of a recount
 abbrev pub CountsBy : Image → ℕ × ℕ × ℕ → List Row → List Row → Type 0

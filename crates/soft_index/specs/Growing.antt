@@ -1,5 +1,5 @@
 -- How what a store wrote and sealed goes on.
-use Rattle.std.specs.Prelude.{◌≡◌, ℕ, List, [], Some, None, IsSome}
+use Rattle.std.specs.Prelude.{◌≡◌, ℕ, ◌≤◌, ◌<◌, List, [], Some, None, IsSome}
 use Rattle.cache_model.specs.Files.{Image, file_in}
 use Rattle.cache_model.specs.Items.{Item}
 use Rattle.cache_model.specs.DataFiles.{Frame}
@@ -10,11 +10,14 @@ use Rattle.soft_index.specs.declared.log_store.LogStore.{LogStore}
 use Rattle.soft_index.specs.Store.{Holds, LogStands, number}
 
 -- Each data file but the current one stays as it reads, and isn't written again. Each record that was written is written
--- still, and each item that was sealed is sealed still. No file with the number 0 is made.
+-- still, and each item that was sealed is sealed still. No file with the number 0 is made, nor one below the current one,
+-- whose number doesn't fall.
 pub record GrowsTo (S T : LogStore) (before after : Image) (frames fs : List Frame) (records rs : List Item) : Type 0 where
   pub closed : (n : ℕ) → (n ≡ number S → ⊥) → IsSome (file_in before (log_name n)) → (n ≡ number T → ⊥) × (file_in after (log_name n) ≡ file_in before (log_name n))
   pub written : (n at : ℕ) (item : Item) (key : List ℕ) → Holds (number S) (placed_of frames records) before n at item → key_of item ≡ Some key → Holds (number T) (placed_of fs rs) after n at item
   pub zero : file_in before (log_name 0) ≡ None → file_in after (log_name 0) ≡ None
+  pub later : number S ≤ number T
+  pub below : (n : ℕ) → n < number S → file_in after (log_name n) ≡ file_in before (log_name n)
   pub sealed : (n at : ℕ) (item : Item) → Holds (number S) (placed_of frames []) before n at item → Holds (number T) (placed_of fs []) after n at item
 
 -- What a store holds has grown from these frames and records.

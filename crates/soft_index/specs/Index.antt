@@ -14,7 +14,7 @@ pub use Rattle.rebuild.specs.Rebuilt.{IsRead}
 use Rattle.store_trait.specs.Meaning.{Numbers, Row, StoreFacts, StoreState, read_in}
 use Rattle.soft_index.specs.declared.log_store.LogStore.{LogStore}
 use Rattle.soft_index.specs.declared.soft_index.SoftIndex.{SoftIndex}
-use Rattle.soft_index.specs.Compacting.{ByRun, CompactsFile, CountsBy, row_with}
+use Rattle.soft_index.specs.Compacting.{ByRun, CompactsAll, CompactsFile, CountsBy, IsSwept, TurnsAll, row_with}
 use Rattle.soft_index.specs.Running.{MayGoOn}
 use Rattle.soft_index.specs.Steps.{StepsIn}
 use Rattle.soft_index.specs.Turns.{run_facts, run_means, turns_for}
@@ -62,4 +62,7 @@ pub record IsStarted (files : Image) (settings : Settings) (facts : StoreFacts) 
   pub steps : (read : Image) (kind : StepKind) (turned : Turned) (a b : List Row) → facts.steps read kind turned a b → StepsIn settings.queue settings.compact_below read kind turned a b
   pub compacts : (read mid : Image) (file : ℕ) (turned : Turned) (turns : ℕ) (a b : List Row) → facts.compacts read mid file turned turns a b → CompactsFile settings.queue read mid file turned turns a b
   pub turns : (read mid : Image) (file : ℕ) (rows : List Row) → facts.turns read mid file rows ≡ turns_for read mid file rows
+  pub compacts_all : (read mid : Image) (turns : ℕ) (a b : List Row) → facts.compacts_all read mid turns a b → CompactsAll settings.queue read mid turns a b
+  pub turns_all : (read mid : Image) (rows : List Row) (turns : ℕ) → facts.turns_all read mid rows turns → TurnsAll read mid rows turns
+  pub sweeps : (read image : Image) → facts.sweeps read image → IsSwept read image
   pub counts : (read : Image) (figures : ℕ × ℕ × ℕ) (a b : List Row) → facts.counts read figures a b → CountsBy read figures a b

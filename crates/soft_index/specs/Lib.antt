@@ -14,3 +14,4 @@ pub mod Steps
 pub mod Running
 pub mod RunLaws
 pub mod Turns
+pub mod Sweeping

@@ -1,5 +1,5 @@
 -- Laws of a store with a compaction under way: it stands on while what the store holds grows.
-use Rattle.std.proofs.Common.{◌≡◌, inl, inr, ℕ, true, false, List, [], ◌++◌, Option, Some, None, IsSome, refl, sym, ◌∙◌, ap, subst}
+use Rattle.std.proofs.Common.{◌≡◌, inl, inr, ℕ, true, false, List, [], ◌++◌, Option, Some, None, IsSome, refl, sym, ◌∙◌, ap, subst, arith}
 use Rattle.std.specs.Prelude.{filter, unwrap_or}
 use Rattle.cache_model.specs.Files.{Image, bytes_in, file_in}
 use Rattle.cache_model.specs.Items.{Item, end}
@@ -96,6 +96,8 @@ module _ (store : CompactingStore) (a b : HostState) (leaves : Leaves owns_file 
     closed = λ n other there. (other, same_files n);
     written = λ n at item key holds of_key. holds-there (number L) (placed_of frames records) a.files b.files (λ m apart. same_files m) n at item holds;
     zero = λ none. same_files 0 ∙ none;
+    later = omega arith;
+    below = λ n less. same_files n;
     sealed = λ n at item holds. holds-there (number L) (placed_of frames []) a.files b.files (λ m apart. same_files m) n at item holds;
   }
 

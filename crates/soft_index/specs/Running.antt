@@ -1,5 +1,5 @@
 -- A compaction that is under way, and what its turns do to what a store holds.
-use Rattle.std.specs.Prelude.{◌≡◌, ◌⊎◌, ℕ, ◌+◌, ◌≤◌, true, false, List, [], ◌++◌, Contains, filter, length, map, Option, Some, None, IsSome, Result, Ok, Err, IfOk, OnOk, if◌then◌else◌}
+use Rattle.std.specs.Prelude.{◌≡◌, ◌⊎◌, ℕ, ◌+◌, ◌≤◌, ◌<◌, true, false, List, [], ◌++◌, Contains, filter, length, map, Option, Some, None, IsSome, Result, Ok, Err, IfOk, OnOk, if◌then◌else◌}
 use Rattle.cache_model.specs.declared.faults.StoreFault.{StoreFault}
 use Rattle.cache_model.specs.Files.{Image, IsFileName, bytes_in, file_in}
 use Rattle.cache_model.specs.Items.{Item, end}
@@ -155,10 +155,25 @@ abbrev pub ActsRows : ℕ → ℕ → Run → Option Run → List Row → List R
 ActsRows limit count run next a b =
     (waiting : ℕ) × (current : Option ℕ) × (left : ℕ) × (now : Option ℕ) × (a ≡ row_of waiting current) × (b ≡ row_of left now) × TakesAction limit run.file count (turns_done run) waiting current left now (run_of next)
 
--- the file of a compaction that goes on stays as it reads
+-- the file of a compaction that goes on stays as it reads, and that of one that has ended is gone
 abbrev pub KeepsFile : Run → Option Run → HostState → HostState → Type 0
-KeepsFile run None a b = Unit {0}
+KeepsFile run None a b = file_in b.files (log_name run.file) ≡ None
 KeepsFile run (Some next) a b = file_in b.files (log_name run.file) ≡ file_in a.files (log_name run.file)
+
+-- a number other than that of a compaction's file
+abbrev pub IsApart : Option ℕ → ℕ → Type 0
+IsApart None n = Unit {0}
+IsApart (Some file) n = n ≡ file → ⊥
+
+-- the file of a compaction, where there is one
+abbrev pub file_of : Option Run → Option ℕ
+file_of None = None
+file_of (Some run) = Some run.file
+
+-- Each file below the current one stays as it reads, but for that of a compaction, and no file is made there.
+pub record KeepsFiles (file : Option ℕ) (S T : LogStore) (before after : Image) : Type 0 where
+  pub later : number S ≤ number T
+  pub below : (n : ℕ) → n < number S → IsApart file n → file_in after (log_name n) ≡ file_in before (log_name n)
 
 -- An action of a compaction: the content stays, and the compaction goes on as it says, or has ended.
 pub record HasActed (run : Run) (S T : LogStore) (a b : HostState) (moment : ℕ) (result : Result (Option Run) StoreFault) : Type 0 where
@@ -166,6 +181,7 @@ pub record HasActed (run : Run) (S T : LogStore) (a b : HostState) (moment : ℕ
   pub content : OnOk result (SameContent (content_of S a.files) (content_of T b.files))
   pub held : IfOk result (λ next. HoldsRun next T b)
   pub stays : IfOk result (λ next. KeepsFile run next a b)
+  pub files : OnOk result (KeepsFiles (Some run.file) S T a.files b.files)
   pub rows : IfOk result (λ next. ActsRows S.parts.requests.limit (counted_records a.files run.file) run next (log_facts S).parts (log_facts T).parts)
 
 -- how the beginning of a compaction of a file moves the parts of the log: the queue is emptied, and the file is a closed one,

@@ -207,6 +207,9 @@ log_facts store = record {
   steps = λ files kind turned a b. StepsBy kind turned a b;
   compacts = λ files mid file turned turns a b. (turned ≡ Idle) × (turns ≡ 0) × (b ≡ a);
   turns = λ files mid file rows. 0;
+  compacts_all = λ files mid turns a b. (turns ≡ 0) × (b ≡ a);
+  turns_all = λ files mid rows turns. turns ≡ 0;
+  sweeps = λ files image. Unit {0};
   counts = CountsBy;
 }
 

@@ -51,10 +51,12 @@ pub record MayBeTaken (S : LogStore) (files : Image) (frames : List Frame) (reco
   pub outdone : (key : List ℕ) (at : ℕ) (item : Item) → Holds (number S) (placed_of frames []) files file at item → key_of item ≡ Some key → IsOutdoneBy (Holds (number S) (placed_of frames []) files) key file at item
   pub stamped : HasNoLaterEnd (Holds (number S) (placed_of frames []) files) file
 
--- A data file was taken away: the content stays, and the store holds what it held without it. Other files stay.
+-- A data file was taken away: the content stays, and the store holds what it held without it. Other files stay, and so does
+-- the number of the current one.
 pub record IsTakenIn {R : Type 0} (S T : LogStore) (a b : HostState) (frames : List Frame) (records : List Item) (file moment : ℕ) (result : Result R StoreFault) : Type 0 where
   pub acts : Acts (log_facts S) (log_facts T) (log_means S a) (log_means T b) a b moment (content_of S a.files) result
   pub content : OnOk result (SameContent (content_of S a.files) (content_of T b.files))
   pub taken : OnOk result (LogStands T b frames records)
   pub gone : OnOk result (file_in b.files (log_name file) ≡ None)
   pub others : SameBut (log_name file) a.files b.files
+  pub current : number T ≡ number S

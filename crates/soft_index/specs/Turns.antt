@@ -3,17 +3,18 @@ use Rattle.std.specs.Prelude.{◌≡◌, ℕ, ◌+◌, ◌≤◌, min, List, [],
 use Rattle.cache_model.specs.declared.faults.StoreFault.{StoreFault}
 use Rattle.cache_model.specs.declared.replies.Turned.{Turned}
 use Rattle.cache_model.specs.declared.replies.Turned.TheVariants.{Idle}
-use Rattle.cache_model.specs.Files.{Image}
+use Rattle.cache_model.specs.Files.{Image, file_in}
+use Rattle.cache_model.specs.Images.{log_name}
 use Rattle.cache_disk.specs.State.{HostState}
 use Rattle.compactor.specs.Recounting.{counted_records}
 use Rattle.store_trait.specs.Meaning.{Row, StoreFacts, StoreState}
 use Rattle.store_trait.specs.Keeping.{SameContent}
 use Rattle.soft_index.specs.declared.compacting.CompactingStore.{CompactingStore}
 use Rattle.store_trait.specs.Calls.{MayHaveRead}
-use Rattle.soft_index.specs.Compacting.{ByRun, CompactsBy, CompactsFile, IsCurrentBehind, turns_left, with_run}
+use Rattle.soft_index.specs.Compacting.{ByRun, CompactsAll, CompactsBy, CompactsFile, IsCurrentBehind, IsSwept, TurnsAll, turns_left, with_run}
 use Rattle.soft_index.specs.Copied.{MakesFile}
 use Rattle.soft_index.specs.declared.running.Run.{Run}
-use Rattle.soft_index.specs.Running.{ActsOr, ActsRows, HoldsRun, KeepsFile, MayGoOn, run_of, turns_done}
+use Rattle.soft_index.specs.Running.{ActsOr, ActsRows, HoldsRun, KeepsFile, KeepsFiles, MayGoOn, file_of, run_of, turns_done}
 use Rattle.soft_index.specs.Steps.{StepsIn}
 use Rattle.soft_index.specs.Store.{IsUsable, MakesRoom, Queues, content_of, log_facts, log_means, next_file, next_of, number, row_of, writer}
 use Rattle.soft_index.specs.declared.log_store.LogStore.{LogStore}
@@ -33,6 +34,9 @@ run_facts store = record (log_facts store.log) {
   steps = λ files kind turned a b. StepsIn store.log.parts.requests.limit store.threshold files kind turned a b;
   compacts = λ files mid file turned turns a b. CompactsFile store.log.parts.requests.limit files mid file turned turns a b;
   turns = turns_for;
+  compacts_all = λ files mid turns a b. CompactsAll store.log.parts.requests.limit files mid turns a b;
+  turns_all = TurnsAll;
+  sweeps = IsSwept;
 }
 
 -- what it stands for on a host that tells its contents: what its log does, and it holds the run
@@ -45,6 +49,7 @@ pub record HasGoneOn (run : Run) (S T : CompactingStore) (a b : HostState) (mome
   pub content : OnOk result (SameContent (content_of S.log a.files) (content_of T.log b.files))
   pub held : OnOk result (HoldsRun T.run T.log b)
   pub stays : OnOk result (KeepsFile run T.run a b)
+  pub files : OnOk result (KeepsFiles (Some run.file) S.log T.log a.files b.files)
   pub rows : OnOk result (ActsRows S.log.parts.requests.limit (counted_records a.files run.file) run T.run (log_facts S.log).parts (log_facts T.log).parts)
 
 -- A turn of a compaction was taken: the content stays, and the parts moved by it.
@@ -76,12 +81,19 @@ EndsRows limit files (Some run) a b =
 abbrev pub MakesUpTo : ℕ → LogStore → LogStore → Type 0
 MakesUpTo turns S T = next_file (writer T) (number T) ≤ next_file (writer S) (number S) + turns
 
+-- the file of a compaction is gone
+abbrev pub IsGone : Option Run → Image → Type 0
+IsGone None files = Unit {0}
+IsGone (Some run) files = file_in files (log_name run.file) ≡ None
+
 -- The compaction that was under way has ended: the content stays, and it took all its turns.
 pub record HasEnded (S T : CompactingStore) (a b : HostState) (moment : ℕ) (result : Result (Unit {0}) StoreFault) : Type 0 where
   pub acts : ActsOr S.log T.log a b moment result
   pub content : OnOk result (SameContent (content_of S.log a.files) (content_of T.log b.files))
   pub held : OnOk result (HoldsRun None T.log b)
   pub made : MakesUpTo (turns_left a.files (run_of S.run)) S.log T.log
+  pub files : OnOk result (KeepsFiles (file_of S.run) S.log T.log a.files b.files)
+  pub gone : OnOk result (IsGone S.run b.files)
   pub rows : OnOk result (EndsRows S.log.parts.requests.limit a.files S.run (log_facts S.log).parts (log_facts T.log).parts)
 
 -- how the compaction of a file moved the parts, and how many files it made at the most

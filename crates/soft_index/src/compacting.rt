@@ -12,14 +12,16 @@ ghost use Rattle.cache_model.specs.DataFiles.{Frame};
 ghost use Rattle.cache_disk.specs.Calls.{HasStoreCause};
 ghost use Rattle.store_trait.specs.Meaning.{IsChange};
 ghost use Rattle.store_trait.specs.Calls.{DrawsBy, DrawsNone, DrawsOne, IsReady, Plainly, Stepped, Written};
-ghost use Rattle.soft_index.specs.Store.{AreInRange, IsFirstDamageOf, IsOpened, IsSpentBy, IsWritten, LogStands, log_facts, spent_by};
+ghost use Rattle.soft_index.specs.Store.{AreInRange, IsFirstDamageOf, IsOpened, IsSpentBy, IsWritten, LogStands, log_facts, number, spent_by};
 ghost use Rattle.soft_index.specs.Turns.{HasCompacted, HasEnded, HasGoneOn, HasTurned, TakesNoNumber, TurnMakes, run_facts, run_means};
 ghost use Rattle.soft_index.specs.Copied.{MakesFile};
 ghost use Rattle.soft_index.specs.Running.{HasBegun, HasBegunOver, HoldsRun, IsUsableRun, MayGoOn, due_of};
 ghost use Rattle.soft_index.specs.RunLaws.{run_carries, run_holds};
+ghost use Rattle.soft_index.specs.Sweeping.{HasRunOver};
 
 use crate::log_store::LogStore;
 use crate::running::{Run, act, begin, data_file_name, empty};
+use crate::sweeping::compact_every;
 use cache_disk::Host;
 use cache_model::{Answer, Change, Key, Settings, StepKind, StoreFault, Turned};
 use std::alloc::Global;
@@ -143,6 +145,16 @@ impl<H: Host> FileStore<H> for CompactingStore {
     fn compact_file(&mut self, host: &mut H, file: u32, moment: u64) -> Result<Turned, StoreFault> {
         match compact_whole(self, host, file, moment) {
             Ok(turned) => Ok(turned),
+            Err(fault) => {
+                self.log.parts.spoilt = true;
+                Err(fault)
+            }
+        }
+    }
+
+    fn compact_all(&mut self, host: &mut H, moment: u64) -> Result<(), StoreFault> {
+        match compact_every(self, host, moment) {
+            Ok(()) => Ok(()),
             Err(fault) => {
                 self.log.parts.spoilt = true;
                 Err(fault)
@@ -279,8 +291,8 @@ fn take_turn<H: Host>(
     }
 }
 
-// Ends the compaction that is under way, where one is. After a fault the store may not be spoilt.
-fn end_run<H: Host>(
+/// Ends the compaction that is under way, where one is. After a fault the store may not be spoilt.
+pub(crate) fn end_run<H: Host>(
     store: &mut CompactingStore,
     host: &mut H,
     moment: u64,
@@ -315,6 +327,7 @@ fn begin_over<H: Host>(
     requires stands { IsTrue H.tells → HoldsRun None store.old (H.state host.old) }
     ensures plain { Plainly (log_facts store.old) (log_facts store.new) moment result }
     ensures draws { DrawsNone (log_facts store.old) (log_facts store.new) }
+    ensures number { OnOk result (number store.new ≡ number store.old) }
     ensures run { IfOk result MayGoOn }
     ensures told { IsTrue H.tells → HasBegunOver file store.old store.new (H.state host.old) (H.state host.new) moment result }
     ensures cause { HasStoreCause (H.state host.old) (H.state host.new) result }
@@ -337,6 +350,37 @@ fn begin_over<H: Host>(
     }
 }
 
+/// Takes all turns of a run over a closed file. Idle where the file isn't one. No run is under way. After a fault the store
+/// may not be spoilt.
+pub(crate) fn compact_closed<H: Host>(
+    store: &mut CompactingStore,
+    host: &mut H,
+    file: u32,
+    moment: u64,
+) -> Result<Turned, StoreFault>
+    requires ready { IsReady (run_facts store.old) moment }
+    requires none { store.old.run ≡ None }
+    requires stands { IsTrue H.tells → (run_means store.old (H.state host.old)).stands }
+    ensures plain { Plainly (log_facts store.old.log) (log_facts store.new.log) moment result }
+    ensures goes { (store.new.threshold ≡ store.old.threshold) × MayGoOn store.new.run }
+    ensures next { TakesNoNumber store.old.log store.new.log result }
+    ensures ended { OnOk result (store.new.run ≡ None) }
+    ensures told { IsTrue H.tells → HasRunOver file store.old store.new (H.state host.old) (H.state host.new) moment result }
+    ensures cause { HasStoreCause (H.state host.old) (H.state host.new) result }
+{
+    match begin_over(&mut store.log, host, store.alloc, file, moment) {
+        Ok(Some(run)) => {
+            store.run = Some(run);
+            match end_run(store, host, moment) {
+                Ok(()) => Ok(Turned::Done),
+                Err(fault) => Err(fault),
+            }
+        }
+        Ok(None) => Ok(Turned::Idle),
+        Err(fault) => Err(fault),
+    }
+}
+
 // Compacts a file whole, behind the compaction that is under way. After a fault the store may not be spoilt.
 fn compact_whole<H: Host>(
     store: &mut CompactingStore,
@@ -351,18 +395,8 @@ fn compact_whole<H: Host>(
     ensures told { IsTrue H.tells → HasCompacted file store.old store.new (H.state host.old) (H.state host.new) moment result }
     ensures cause { HasStoreCause (H.state host.old) (H.state host.new) result }
 {
-    if let Err(fault) = end_run(store, host, moment) {
-        return Err(fault);
-    }
-    match begin_over(&mut store.log, host, store.alloc, file, moment) {
-        Ok(Some(run)) => {
-            store.run = Some(run);
-            match end_run(store, host, moment) {
-                Ok(()) => Ok(Turned::Done),
-                Err(fault) => Err(fault),
-            }
-        }
-        Ok(None) => Ok(Turned::Idle),
+    match end_run(store, host, moment) {
+        Ok(()) => compact_closed(store, host, file, moment),
         Err(fault) => Err(fault),
     }
 }

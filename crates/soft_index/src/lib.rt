@@ -10,6 +10,7 @@ mod running;
 mod soft_index;
 mod stamping;
 mod store;
+mod sweeping;
 mod taking;
 mod walking;
 mod writing;

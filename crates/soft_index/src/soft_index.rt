@@ -163,4 +163,9 @@ impl<F: Fn(&Key) -> bool, H: Host> FileStore<H> for SoftIndex<F> {
     fn compact_file(&mut self, host: &mut H, file: u32, moment: u64) -> Result<Turned, StoreFault> {
         self.log.compact_file(host, file, moment)
     }
+
+    /// It ends a compaction that is under way first, and closes the current file.
+    fn compact_all(&mut self, host: &mut H, moment: u64) -> Result<(), StoreFault> {
+        self.log.compact_all(host, moment)
+    }
 }

@@ -15,7 +15,7 @@ ghost use Rattle.store_trait.specs.Meaning.{Content, IsChange};
 ghost use Rattle.store_trait.specs.Keeping.{SameContent};
 ghost use Rattle.store_trait.specs.Calls.{Acts, DrawsBy, DrawsNone, DrawsOne, Figured, IsReady, Loaded, Plainly, Stepped, SyncedStore, Walked, Written};
 ghost use Rattle.soft_index.specs.Growing.{Grows};
-ghost use Rattle.soft_index.specs.Store.{IsSpentBy, IsWritten, LogStands, MakesRoom, Rotates, closed_frames, content_of, log_facts, log_means, number, spent_by, waiting};
+ghost use Rattle.soft_index.specs.Store.{IsSpentBy, IsWritten, LogStands, MakesRoom, Rotates, closed_frames, content_of, log_facts, log_means, next_file, number, spent_by, waiting, writer};
 ghost use Rattle.soft_index.specs.Laws.{log_holds, log_carries};
 
 use crate::log_store::LogStore;
@@ -294,13 +294,19 @@ fn seal<H: Host>(store: &mut LogStore, host: &mut H, moment: u64) -> Result<(), 
     Ok(())
 }
 
-// Seals and closes the current file: the next one is made at the next record.
-fn rotate<H: Host>(store: &mut LogStore, host: &mut H, moment: u64) -> Result<Turned, StoreFault>
+/// Seals and closes the current file: the next one is made at the next record.
+pub(crate) fn rotate<H: Host>(
+    store: &mut LogStore,
+    host: &mut H,
+    moment: u64,
+) -> Result<Turned, StoreFault>
     requires ready { IsReady (log_facts store.old) moment }
     requires stands { IsTrue H.tells → (log_means store.old (H.state host.old)).stands }
     ensures plain { Plainly (log_facts store.old) (log_facts store.new) moment result }
     ensures draws { DrawsNone (log_facts store.old) (log_facts store.new) }
     ensures rows { IfOk result (λ turned. Rotates turned (log_facts store.old).parts (log_facts store.new).parts) }
+    ensures next { OnOk result (next_file (writer store.new) (number store.new) ≡ next_file (writer store.old) (number store.old)) }
+    ensures content { IsTrue H.tells → OnOk result (SameContent (content_of store.old (H.state host.old).files) (content_of store.new (H.state host.new).files)) }
     ensures told { IsTrue H.tells → Stepped Rotate (log_facts store.old) (log_facts store.new)
         (log_means store.old (H.state host.old)) (log_means store.new (H.state host.new)) (H.state host.old) (H.state host.new) moment result }
     ensures cause { HasStoreCause (H.state host.old) (H.state host.new) result }

@@ -1,8 +1,6 @@
-use Rattle.std.proofs.Common.{◌≡◌, ◌∙◌, ◌<◌, List, None, Option, Some, IsSome, ap, sym, subst, ℕ}
+use Rattle.std.proofs.Common.{◌∙◌, ◌<◌, sym, subst, ℕ}
 use Rattle.append_log.specs.Current.{files_of, is_unsealed}
 use Rattle.cache_disk.proofs.Runs.{Stands-same}
-use Rattle.cache_model.specs.Files.{file_in}
-use Rattle.cache_model.specs.Images.{log_name}
 use Rattle.compactor.specs.Recounting.{IsClosedFile}
 use Rattle.soft_index.specs.Store.{current_of, number, writer}
 use Rattle.soft_index.proofs.Acting.{current_by_files, next_by_files}

@@ -1,9 +1,5 @@
-use Rattle.std.proofs.Common.{◌≡◌, ap, sym, subst, ◌∙◌, length, refl, ℕ, List, [], Option, Some, None, IsSome}
+use Rattle.std.proofs.Common.{◌≡◌, ap, length, refl, ℕ, List, [], Option, Some, None, IsSome}
 use Rattle.std.specs.Prelude.{option_map, unwrap_or}
-use Rattle.cache_model.specs.declared.files.FileName.{FileName}
-use Rattle.cache_model.specs.Files.{bytes_in, file_in}
-use Rattle.cache_model.specs.Images.{log_name}
-use Rattle.soft_index.proofs.running.begin.Goals as goal
 
 -- the size of a file that is there
 size_is : (size : ℕ) (found : Option (List ℕ)) → Some size ≡ option_map length found → IsSome found × (size ≡ length (unwrap_or found []))

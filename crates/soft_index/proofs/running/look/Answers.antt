@@ -25,6 +25,7 @@ returns-in_default-copy-clause-told g c told was held read left =
       content = tt;
       held = tt;
       stays = tt;
+      files = tt;
       rows = tt;
     }
 
@@ -38,6 +39,7 @@ returns-in_default-push-clause-told g c told was held read left =
       content = tt;
       held = tt;
       stays = tt;
+      files = tt;
       rows = tt;
     }
 
@@ -70,6 +72,7 @@ returns-in-Ok-look_at-clause-told g c told was held read left =
         zero = here.passed.0.grows.zero held.zero;
       };
       stays = (here.passed.0.grows.closed was.file held.runs.closed held.runs.there).1;
+      files = record { later = here.passed.0.grows.later; below = λ n less apart. here.passed.0.grows.below n less };
       rows = looked_rows old.parts.requests.limit was run next old a.files held.frames held.records (at, item) _ c.in-Some.key.now (length old.parts.requests.waiting) (current_of (writer old) (number old)) _ held.runs read refl refl looked left c.in-Ok-look_at.ensures.rows;
     }
 
@@ -86,4 +89,4 @@ returns-in-Err-clause-told g c told was held read left =
     let holds : Holds (number old) (placed_of held.frames held.records) a.files c.args.one.now.place.file at item = subst (λ (n : ℕ). Holds (number old) (placed_of held.frames held.records) a.files n at item) (sym file) counts in
     let closed : c.args.one.now.place.file ≡ number old → ⊥ = (λ here. held.runs.closed (sym file ∙ here)) in
     let is = c.in-Err.ensures.told told held.frames held.records held.log holds closed in
-    record { acts = acts_err {Q = Unit {0}} {R = Option Run} old new a b c.args.moment c.in-Err.fault is.acts; content = tt; held = tt; stays = tt; rows = tt }
+    record { acts = acts_err {Q = Unit {0}} {R = Option Run} old new a b c.args.moment c.in-Err.fault is.acts; content = tt; held = tt; stays = tt; files = tt; rows = tt }

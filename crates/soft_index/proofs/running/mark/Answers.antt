@@ -28,6 +28,7 @@ returns-in-Ok-clause-told g c told was held read none =
         zero = is.stamped.0.grows.zero held.zero;
       };
       stays = (is.stamped.0.grows.closed was.file held.runs.closed held.runs.there).1;
+      files = record { later = is.stamped.0.grows.later; below = λ n less apart. is.stamped.0.grows.below n less };
       rows = marked_rows old.parts.requests.limit was c.args.run next old a.files held.frames held.records (length old.parts.requests.waiting) rows.2 (current_of (writer old) (number old)) _ held.runs read refl refl refl none
           (rows.4 ∙ ap (λ (q : ℕ). row_of q (Some rows.2)) (sym (same_queued (length old.parts.requests.waiting) rows.0 (current_of (writer old) (number old)) rows.1 rows.3)));
     }
@@ -44,5 +45,6 @@ returns-in-Err-clause-told g c told was held read none =
       content = tt;
       held = tt;
       stays = tt;
+      files = tt;
       rows = tt;
     }

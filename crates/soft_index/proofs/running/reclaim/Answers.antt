@@ -50,6 +50,7 @@ returns-in-Err-clause-told g c told stamped held =
       content = tt;
       held = tt;
       stays = tt;
+      files = tt;
       rows = tt;
     }
 
@@ -73,6 +74,7 @@ returns-in-Err-take_away-clause-told g c told stamped held =
       content = tt;
       held = tt;
       stays = tt;
+      files = tt;
       rows = tt;
     }
 

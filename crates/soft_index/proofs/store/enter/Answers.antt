@@ -77,7 +77,7 @@ returns-in-Err-seal-clause-plain g c =
     plainly_then {T = Unit {0}} {U = Unit {0}} (log_facts c.args.store.now) (log_facts c.put.new.store) (log_facts last) c.args.moment c.put.result (Err c.in-Err-seal.fault) c.put.ensures.plain c.in-Err-seal.ensures.plain
     in
     record {
-      same = record { bits = plain.same.bits; owns = plain.same.owns; ordered = plain.same.ordered; firm = plain.same.firm; forgets = plain.same.forgets; moves = plain.same.moves; empties = plain.same.empties; room = plain.same.room; steps = plain.same.steps; compacts = plain.same.compacts; turns = plain.same.turns; counts = plain.same.counts };
+      same = record { bits = plain.same.bits; owns = plain.same.owns; ordered = plain.same.ordered; firm = plain.same.firm; forgets = plain.same.forgets; moves = plain.same.moves; empties = plain.same.empties; room = plain.same.room; steps = plain.same.steps; compacts = plain.same.compacts; turns = plain.same.turns; compacts_all = plain.same.compacts_all; turns_all = plain.same.turns_all; sweeps = plain.same.sweeps; counts = plain.same.counts };
       usable = λ sound. let no : true ≡ false = sound in cc;
       unspoilt = tt;
       spoilt = inl refl;

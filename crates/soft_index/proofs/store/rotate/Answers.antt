@@ -7,7 +7,7 @@ use Rattle.soft_index.specs.declared.log_store.LogStore.{LogStore}
 use Rattle.soft_index.specs.Counted.{CountsWritten}
 use Rattle.soft_index.proofs.Changes.{as_was, draws_none, same_rows, still_stands}
 use Rattle.soft_index.proofs.Growing.{grows_as_was}
-use Rattle.soft_index.proofs.Turning.{from_main, sealing_acts, seals_main, turned_grows, turned_rows, turned_told}
+use Rattle.soft_index.proofs.Turning.{from_main, sealing_acts, seals_main, turned_content, turned_grows, turned_rows, turned_told}
 use Rattle.soft_index.proofs.store.rotate.Goals as goal
 
 pub rotate-requires-clause-stands : goal.rotate-requires-clause-stands
@@ -110,3 +110,24 @@ returns-in-Ok-clause-grows g c told unspoilt frames records stands =
     turned_grows c.in-Ok.turned old new a b frames records c.args.moment stands c.requires.ready.late refl c.requires.ready.usable.log (ens.goes.usable ens.goes.ok) (ens.goes.store ∙ main) ens.takes ens.turned seals (refl, refl, refl)
     (subst (λ t. CountsWritten t (tail_of (files_of c.rotate.new.self)) old.parts.stats c.count_written.new.stats) c.tail-before.ensures
     (subst (λ t. CountsWritten c.tail-before.result t old.parts.stats c.count_written.new.stats) c.tail.ensures c.count_written.ensures))
+
+pub returns-in-Ok-clause-content : goal.returns-in-Ok-clause-content
+returns-in-Ok-clause-content g c told =
+    let old = c.args.store.now in
+    let new : LogStore = record old { parts = record old.parts { log = c.rotate.new.self; stats = c.count_written.new.stats }; latest = c.args.moment } in
+    let F = old.parts.log.files in
+    let G = c.rotate.new.self.files in
+    let a = g.H.Host.state c.args.host.now in
+    let b = g.H.Host.state c.rotate.new.host in
+    let stands = c.requires.stands told in
+    let main = c.requires.ready.usable.main in
+    let held : Held = record { closed = stands.2.log.0; frames = stands.0; records = stands.1 } in
+    let after = λ (t : Turned). turned_held t F.unsealed F.file c.args.moment held in
+    let ens = c.in-Ok.ensures in
+    let seals = seals_main {R = Turned} F G a b c.args.moment held after (Ok c.in-Ok.turned) main (ens.told told held (from_main F a held main stands.2.log.1)) in
+    turned_content c.in-Ok.turned old new a b stands.0 stands.1 c.args.moment stands.2 c.requires.ready.late refl c.requires.ready.usable.log (ens.goes.usable ens.goes.ok) (ens.goes.store ∙ main) ens.takes ens.turned seals (refl, refl, refl)
+    (subst (λ t. CountsWritten t (tail_of (files_of c.rotate.new.self)) old.parts.stats c.count_written.new.stats) c.tail-before.ensures
+    (subst (λ t. CountsWritten c.tail-before.result t old.parts.stats c.count_written.new.stats) c.tail.ensures c.count_written.ensures))
+
+pub returns-in-Ok-clause-next : goal.returns-in-Ok-clause-next
+returns-in-Ok-clause-next g c = c.rotate.ensures.takes.1

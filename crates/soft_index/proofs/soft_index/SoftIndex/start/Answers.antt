@@ -4,7 +4,7 @@ use Rattle.cache_model.specs.Images.{IsMark}
 use Rattle.temporary_table.specs.declared.requests.Request.{Request}
 use Rattle.store_trait.specs.Meaning.{Row}
 use Rattle.soft_index.specs.declared.running.Run.{Run}
-use Rattle.soft_index.specs.Compacting.{ByRun, CompactsFile, with_run}
+use Rattle.soft_index.specs.Compacting.{ByRun, CompactsAll, CompactsFile, with_run}
 use Rattle.soft_index.specs.Running.{run_of}
 use Rattle.soft_index.specs.Steps.{StepsIn}
 use Rattle.soft_index.specs.Store.{MakesRoom, Queues, current_of, log_facts, next_file, next_of, number, row_of, writer}
@@ -54,5 +54,8 @@ returns-in-Ok-clause-started g c told =
           subst (λ (n : ℕ). StepsIn c.args.settings.now.queue n read kind turned a b) idle.1 (subst (λ (n : ℕ). StepsIn n store.threshold read kind turned a b) limit steps);
       compacts = λ read mid file turned turns a b. subst (λ (n : ℕ). CompactsFile n read mid file turned turns a b) limit;
       turns = λ read mid file rows. refl;
+      compacts_all = λ read mid turns a b. subst (λ (n : ℕ). CompactsAll n read mid turns a b) limit;
+      turns_all = λ read mid rows turns is. is;
+      sweeps = λ read image is. is;
       counts = λ read figures a b counts. counts;
     }

@@ -1,6 +1,6 @@
 use Rattle.soft_index.specs.Turns.{run_facts, run_means}
 use Rattle.soft_index.specs.Rule.{Allows}
-use Rattle.soft_index.proofs.Ruled.{compacted_ruled, plain_ruled}
+use Rattle.soft_index.proofs.Ruled.{compacted_ruled}
 use Rattle.soft_index.proofs.soft_index.SoftIndexFileStore.compact_file.Goals as goal
 
 pub returns-clause-told : goal.returns-clause-told
