@@ -1,7 +1,7 @@
 -- The commands that lines ask for are built, and how they may be answered.
 use Rattle.std.proofs.Common.{[], ap, refl}
 use Rattle.cache_model.specs.declared.commands.Command.{Command}
-use Rattle.cache_model.specs.declared.commands.Command.TheVariants.{Step, CompactAll, CompactFile, Stats, Export}
+use Rattle.cache_model.specs.declared.commands.Command.TheVariants.{Step, CompactFile, Stats, Export}
 use Rattle.cache_model.specs.declared.replies.Reply.{Reply}
 use Rattle.cache_model.specs.Commands.{HasLine}
 use Rattle.cache_model.specs.Plain.{Plain, plain_reply}
@@ -12,7 +12,6 @@ use Rattle.store_trait.specs.Meaning.{StoreFacts}
 use Rattle.cache_session.specs.Turns.{IsBuilt, IsReplyOf, IsStoreReply, figures_of}
 
 pub line_built : (command : Command) → HasLine command → IsBuilt command
-line_built CompactAll h = absurd h
 line_built Export h = absurd h
 line_built command h = tt
 

@@ -4,7 +4,7 @@ use Rattle.std.specs.Prelude.{sum_by}
 use Rattle.std.proofs.lemmas.Bool.{cases_lt}
 use Rattle.std.proofs.lemmas.List.Sums.{sum_by_push}
 use Rattle.cache_model.specs.declared.commands.Command.{Command}
-use Rattle.cache_model.specs.declared.commands.Command.TheVariants.{CompactFile}
+use Rattle.cache_model.specs.declared.commands.Command.TheVariants.{CompactFile, CompactAll}
 use Rattle.cache_model.specs.declared.faults.Damage.{Damage}
 use Rattle.cache_model.specs.declared.faults.StoreFault.{StoreFault}
 use Rattle.cache_model.specs.declared.faults.StoreFault.TheVariants as fault
@@ -17,6 +17,7 @@ use Rattle.store_trait.specs.Meaning.{Numbers, Row, StoreFacts}
 use Rattle.cache_model.specs.declared.files.FileName.{FileName}
 use Rattle.store_trait.specs.Keeping.{SameWhere, Carries, Leaves}
 use Rattle.store_trait.specs.Calls.{IsNumbered, MayHaveRead}
+use Rattle.soft_index.specs.Compacting.{TurnsAll}
 use Rattle.soft_index.specs.Turns.{turns_for}
 use Rattle.cache_session.specs.Turns.{MakesBy, way_of, files_by, Turns, Goes}
 use Rattle.cache_cli.specs.Fitting.{IsLog}
@@ -121,16 +122,24 @@ takes_none course a b later left talk taken turned rows moved =
     let since = moved_later course a b later talk.opening talk.answered talk.responses taken turned rows moved in
     record { taken = taken; parts = since.parts; moved = since.moved; in_hand = 0; takes = inl refl; all = omega (arith, since.counted) }
 
--- The turns that the command in hand takes at the most, where the rows are those of such parts: where it compacts one file it
--- makes no more files.
+-- The turns that the command in hand takes at the most, where the rows are those of such parts: where it compacts files it makes
+-- no more files.
 in_hand_by : (pace : Pace) (f g : StoreFacts) → FollowsParts pace f → (a b : HostState) (read : Image → Type 0) → read a.files → ((mid : Image) → MayHaveRead a b mid → read mid)
     → (parts : Parts) → f.parts ≡ rows_of parts → (command : Command) (count : ℕ) → MakesBy (way_of command) f g a b count
     → (turns : ℕ) × TurnsInHand read parts (command ∷ []) turns × (g.made ≤ f.made + count + files_by command + turns)
 in_hand_by pace f g follows a b read now between parts rows (CompactFile file) count made =
     let mid = made.0 in
     let turns = turns_for a.files mid file (rows_of parts) in
-    let same : f.turns a.files mid file f.parts ≡ turns = follows.turns a.files mid file f.parts ∙ ap (λ (l : List Row). turns_for a.files mid file l) rows in
-    (turns, inr (file, a.files, mid, refl, now, between mid made.1, refl), omega (arith, made.2, same))
+    let same : f.turns a.files mid file f.parts ≡ turns = follows.turns a.files mid file f.parts ∙ ap (λ (l : List Row). turns_for a.files mid file l) rows in (
+      turns,
+      inr (inl record { file = file; asked = refl; files = a.files; is_read = now; mid = mid; mid_is_read = between mid made.1; all = refl }),
+      omega (arith, made.2, same),
+    )
+in_hand_by pace f g follows a b read now between parts rows CompactAll count made =
+    let mid = made.0 in
+    let turns = made.1 in
+    let all : TurnsAll a.files mid (rows_of parts) turns = subst (λ (l : List Row). TurnsAll a.files mid l turns) rows (follows.turns_all a.files mid f.parts turns made.3) in
+    (turns, inr (inr record { asked = refl; files = a.files; is_read = now; mid = mid; mid_is_read = between mid made.2; all = all }), omega (arith, made.4))
 in_hand_by pace f g follows a b read now between parts rows command count made = (0, inl refl, omega (arith, made))
 
 -- a number is at its end for a change of the command in hand

@@ -1,7 +1,7 @@
 -- What was told of files that read so stays true where more files did, as on later hosts.
 use Rattle.std.proofs.Common.{ℕ, zero, suc, ◌+◌, ◌≤◌, List, [], ◌∷◌, arith}
 use Rattle.cache_model.specs.declared.commands.Command.{Command}
-use Rattle.cache_model.specs.declared.commands.Command.TheVariants.{Step, Sync, Stop, Stats, CompactFile}
+use Rattle.cache_model.specs.declared.commands.Command.TheVariants.{Step, Sync, Stop, Stats, CompactFile, CompactAll}
 use Rattle.cache_model.specs.declared.commands.StepKind.{StepKind}
 use Rattle.cache_model.specs.declared.commands.StepKind.TheVariants.{Compact}
 use Rattle.cache_model.specs.declared.replies.Reply.{Reply}
@@ -55,6 +55,15 @@ module _ (one two : Image → Type 0) (more : (files : Image) → one files → 
     mid_is_read = more moves.mid moves.mid_is_read;
     turned = moves.turned;
     reply = moves.reply;
+    turns = moves.turns;
+    compacts = moves.compacts;
+    took = moves.took;
+  }
+  command_more pace plain CompactAll reply a b moves = record {
+    files = moves.files;
+    is_read = more moves.files moves.is_read;
+    mid = moves.mid;
+    mid_is_read = more moves.mid moves.mid_is_read;
     turns = moves.turns;
     compacts = moves.compacts;
     took = moves.took;

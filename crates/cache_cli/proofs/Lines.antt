@@ -49,7 +49,7 @@ left_so : (read : Image → Type 0) (pace : Pace) (plain : Plain) (meaning : Lin
 left_so read pace plain (asks command) refusal a = inl refl
 left_so read pace plain (refuses other) refusal a = refl
 
--- the rows with one answer more, which took so many turns for a line that compacts one file
+-- the rows with one answer more, which took so many turns for a line that compacts files
 moved-append : (read : Image → Type 0) (course : Course) (left : List (List ℕ)) (talk : Talk) (going : is_over talk ≡ false) (line : List ℕ) (response : Response) (rows next : List Row) (turned turns all : ℕ)
     → all ≡ turned + turns
     → HasMoved read course.pace talk.opening talk.answered talk.responses (asked_in course talk) turned rows

@@ -1,7 +1,7 @@
 -- A store that keeps the rules of parts moves them as the talk says.
 use Rattle.std.proofs.Common.{◌≡◌, inl, ⊎_elim, ℕ, ◌+◌, ◌≤◌, List, [], ◌∷◌, length, refl, sym, ◌∙◌, ap, subst, arith}
 use Rattle.cache_model.specs.declared.commands.Command.{Command}
-use Rattle.cache_model.specs.declared.commands.Command.TheVariants.{Step, Sync, Stop, Stats, CompactFile}
+use Rattle.cache_model.specs.declared.commands.Command.TheVariants.{Step, Sync, Stop, Stats, CompactFile, CompactAll}
 use Rattle.cache_model.specs.declared.commands.StepKind.{StepKind}
 use Rattle.cache_model.specs.declared.commands.StepKind.TheVariants.{Index, Flush, Compact, Evict, Reap, Rotate}
 use Rattle.cache_model.specs.declared.entries.Change.{Change}
@@ -27,7 +27,7 @@ rows_stay queue rows next same = λ a is within. (a, same ∙ is, within, refl)
 pub rows_more : (queue : ℕ) (one two : Parts → Parts → Type 0) (rows next : List Row) → ((a b : Parts) → one a b → two a b) → RowsMove queue one rows next → RowsMove queue two rows next
 rows_more queue one two rows next more moves = λ a is within. let moved = moves a is within in (moved.0, moved.1, moved.2, more a moved.0 moved.3)
 
--- The turns that lines which compact one file took stay, but by such a line.
+-- The turns that lines which compact files took stay, but by such a line.
 
 indexing_turned : (turned : Turned) (a b : Parts) → IndexingMoves turned a b → b.turned ≡ a.turned
 indexing_turned Done a b moves = ap (λ (p : Parts). p.turned) moves.1
@@ -64,6 +64,8 @@ follows_same pace f g same follows = record {
   counts = λ files figures rows next counts. follows.counts files figures rows next ((same.counts files figures rows next).0 counts);
   compacts = λ files mid file turned turns rows next compacts. follows.compacts files mid file turned turns rows next ((same.compacts files mid file turned turns rows next).0 compacts);
   turns = λ files mid file rows. same.turns files mid file rows ∙ follows.turns files mid file rows;
+  compacts_all = λ files mid turns rows next compacts. follows.compacts_all files mid turns rows next ((same.compacts_all files mid turns rows next).0 compacts);
+  turns_all = λ files mid rows turns is. follows.turns_all files mid rows turns ((same.turns_all files mid rows turns).0 is);
   steps = λ files kind turned rows next steps. follows.steps files kind turned rows next ((same.steps files kind turned rows next).0 steps);
 }
 
@@ -92,8 +94,7 @@ module _ (pace : Pace) (f : StoreFacts) (follows : FollowsParts pace f) where
     actor_moves Compact turned rows next moves = store_moves Compact turned rows next moves
     actor_moves Rotate turned rows next moves = store_moves Rotate turned rows next moves
 
-  -- A command that was done moves the rows so, in so many turns where it compacts one file, of which each made one file at the
-  -- most.
+  -- A command that was done moves the rows so, in so many turns where it compacts files, of which each made one file at the most.
   module _ (g : StoreFacts) (before after : HostState) (read : Image → Type 0) (now : read before.files) (between : (mid : Image) → MayHaveRead before after mid → read mid) where
     pub command_moves : (command : Command) (plain : Plain) (changes : List Change) → IsOrder (effect_of plain command) changes → (reply : Reply)
         → PartsBy (way_of command) f changes f.parts g.parts → IsStoreReply command f g before after reply → MakesBy (way_of command) f g before after (length changes)
@@ -139,6 +140,22 @@ module _ (pace : Pace) (f : StoreFacts) (follows : FollowsParts pace f) where
                     compacts = moved.3.0;
                     took = moved.3.1;
                   },
+                  moved.3.1,
+                ),
+              ),
+        )
+    command_moves CompactAll plain changes order reply parts store made =
+        let mid = store.0.0 in
+        let turns = store.0.1 in (
+          turns,
+          omega (arith, store.0.4),
+          λ a is within.
+              let moved = follows.compacts_all before.files mid turns f.parts g.parts store.0.3 a is within in (
+                moved.0,
+                moved.1,
+                moved.2,
+                (
+                  record { files = before.files; is_read = now; mid = mid; mid_is_read = between mid store.0.2; turns = turns; compacts = moved.3.0; took = moved.3.1 },
                   moved.3.1,
                 ),
               ),

@@ -29,7 +29,7 @@ use Rattle.store_trait.specs.Calls.{IsReady}
 use Rattle.store_trait.proofs.Runs.{leaves_then}
 use Rattle.cache_script.specs.Damages.{damage_line}
 use Rattle.soft_index.specs.declared.soft_index.SoftIndex.{SoftIndex}
-use Rattle.soft_index.specs.Compacting.{Run, ByRun, CompactsBy, CompactsFile, CountsBy, GoesOnWith, TakesAction, row_with, with_run}
+use Rattle.soft_index.specs.Compacting.{Run, ByRun, CompactsAll, CompactsBy, CompactsFile, CountsBy, GoesOnWith, TakesAction, row_with, waiting_behind, with_run}
 use Rattle.soft_index.specs.Index.{IsRead, IsStarted, index_means}
 use Rattle.rebuild.specs.Listing.{IsFirstDamageOf}
 use Rattle.soft_index.specs.Store.{AreInRange as IsInRangeOfStore, HasReading, MakesRoom, Queues, owns_file}
@@ -359,6 +359,24 @@ store_compacts_file queue files mid file Idle turns rows next by = λ a is withi
   ((by.0, by.1, by.2, by.3, sym is ∙ by.4, by.5, by.6, by.7, refl), refl),
 )
 
+capped : (records queue : ℕ) → min records queue ≤ queue
+capped records queue = omega arith
+
+-- the requests that wait behind runs over files are within the queue's room where those before are
+swept_within : (queue : ℕ) (files : Image) (numbers : List ℕ) (queued : ℕ) → queued ≤ queue → waiting_behind queue files queued numbers ≤ queue
+swept_within queue files [] queued within = within
+swept_within queue files (number ∷ numbers) queued within = swept_within queue files numbers _ (capped _ queue)
+
+-- the compaction of all files, whose turns are counted
+store_compacts_all : (queue : ℕ) (files mid : Image) (turns : ℕ) (rows next : List Row) → CompactsAll queue files mid turns rows next
+    → RowsMove queue (λ a b. CompactsAll queue files mid turns (rows_of a) (rows_of b) × (b.turned ≡ a.turned + turns)) rows next
+store_compacts_all queue files mid turns rows next by = λ a is within. (
+  record { queued = waiting_behind queue mid 0 by.3; current = by.4; run = None; turned = a.turned + turns },
+  by.9,
+  swept_within queue mid by.3 0 (omega arith),
+  ((by.0, by.1, by.2, by.3, by.4, sym is ∙ by.5, by.6, by.7, by.8, refl), refl),
+)
+
 -- a store that was opened follows the rules of its settings
 pub started_follows : (files : Image) (settings : Settings) (facts : StoreFacts) (state : StoreState) (mark : ℕ) → IsStarted files settings facts state mark → FollowsParts (pace_of settings) facts
 started_follows files settings facts state mark started = record {
@@ -368,6 +386,8 @@ started_follows files settings facts state mark started = record {
   counts = λ files figures rows next counts. store_counts settings.queue files figures rows next (started.counts files figures rows next counts);
   compacts = λ files mid file turned turns rows next compacts. store_compacts_file settings.queue files mid file turned turns rows next (started.compacts files mid file turned turns rows next compacts);
   turns = started.turns;
+  compacts_all = λ files mid turns rows next compacts. store_compacts_all settings.queue files mid turns rows next (started.compacts_all files mid turns rows next compacts);
+  turns_all = started.turns_all;
   steps = λ files kind turned rows next steps. store_steps (pace_of settings) files kind turned rows next (started.steps files kind turned rows next steps);
 }
 
@@ -411,6 +431,9 @@ started_same a b settings facts state mark same started =
       steps = started.steps;
       compacts = started.compacts;
       turns = started.turns;
+      compacts_all = started.compacts_all;
+      turns_all = started.turns_all;
+      sweeps = started.sweeps;
       counts = started.counts;
     }
 

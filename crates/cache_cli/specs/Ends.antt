@@ -1,7 +1,7 @@
 -- How a run ends: what it said by then, by its status.
 use Rattle.std.specs.Prelude.{◌≡◌, ◌⊎◌, ℕ, ◌+◌, ◌-◌, ◌^◌, ◌<◌, ◌≤◌, true, false, List, [], ◌∷◌, ◌++◌, length, None, sum_by}
 use Rattle.cache_model.specs.declared.commands.Command.{Command}
-use Rattle.cache_model.specs.declared.commands.Command.TheVariants.{CompactFile}
+use Rattle.cache_model.specs.declared.commands.Command.TheVariants.{CompactFile, CompactAll}
 use Rattle.cache_model.specs.declared.entries.Change.{Change}
 use Rattle.cache_model.specs.declared.faults.Damage.{Damage}
 use Rattle.cache_model.specs.declared.replies.Status.{Status}
@@ -16,6 +16,7 @@ use Rattle.rebuild.specs.Listing.{IsFirstDamageOf}
 use Rattle.cache_session.specs.Turns.{files_by}
 use Rattle.cache_cli.specs.Foreign.{IsForeign}
 use Rattle.cache_cli.specs.Fitting.{IsLog}
+use Rattle.soft_index.specs.Compacting.{TurnsAll}
 use Rattle.soft_index.specs.Turns.{turns_for}
 use Rattle.cache_cli.specs.Parts.{Parts, rows_of, no_parts}
 use Rattle.cache_cli.specs.Pump.{files_by_steps, PartsThrough}
@@ -60,13 +61,32 @@ pub record EndsUnsaid (course : Course) (to : HostState) : Type 0 where
   pub before : turn < to.turn
   pub lost : (t : ℕ) → turn < t → t ≤ to.turn → to.said t ≡ None
 
--- so many turns are taken for these commands at the most: none, or those of the compaction of one file, where the files
--- read so when it begins, and so once the compaction that is under way has ended
-abbrev pub TurnsInHand : (Image → Type 0) → Parts → List Command → ℕ → Type 0
-TurnsInHand read parts commands turns =
-    (turns ≡ 0) ⊎ ((file : ℕ) × (files : Image) × (mid : Image) × (commands ≡ CompactFile file ∷ []) × read files × read mid × (turns ≡ turns_for files mid file (rows_of parts)))
+-- So many turns are taken at the most for commands that compact one file, where the files read so when that begins, and so once
+-- the compaction that is under way has ended.
+pub record TurnsForFile (read : Image → Type 0) (parts : Parts) (commands : List Command) (turns : ℕ) : Type 0 where
+  pub file : ℕ
+  pub asked : commands ≡ CompactFile file ∷ []
+  pub files : Image
+  pub is_read : read files
+  pub mid : Image
+  pub mid_is_read : read mid
+  pub all : turns ≡ turns_for files mid file (rows_of parts)
 
--- So many turns are taken for lines that compact one file: those that the parts count that the answers and so many background
+-- So many turns are taken at the most for commands that compact all files, where the files read so when that begins, and so once
+-- the compaction that is under way has ended and all files are closed.
+pub record TurnsForAll (read : Image → Type 0) (parts : Parts) (commands : List Command) (turns : ℕ) : Type 0 where
+  pub asked : commands ≡ CompactAll ∷ []
+  pub files : Image
+  pub is_read : read files
+  pub mid : Image
+  pub mid_is_read : read mid
+  pub all : TurnsAll files mid (rows_of parts) turns
+
+-- so many turns are taken for these commands at the most: none, or those of the compaction of one file or of all files
+abbrev pub TurnsInHand : (Image → Type 0) → Parts → List Command → ℕ → Type 0
+TurnsInHand read parts commands turns = (turns ≡ 0) ⊎ (TurnsForFile read parts commands turns ⊎ TurnsForAll read parts commands turns)
+
+-- So many turns are taken for lines that compact files: those that the parts count that the answers and so many background
 -- steps came to, and those for the command in hand.
 pub record TakesTurns (course : Course) (to : HostState) (left : List (List ℕ)) (talk : Talk) (turns : ℕ) : Type 0 where
   pub taken : ℕ
@@ -79,7 +99,7 @@ pub record TakesTurns (course : Course) (to : HostState) (left : List (List ℕ)
 -- A run ended at a command or a background step for which a number is at its end: the next sequence number, or that of a
 -- file that has to be made. The numbers at the opening and the changes of the commands up to this one add up to no less; a
 -- turn of a compaction counts as a change for the file that it may make, also among the background steps, and also where a
--- line compacts one file.
+-- line compacts files.
 pub record EndsSpent (course : Course) (to : HostState) : Type 0 where
   pub talk : Talk
   pub left : List (List ℕ)

@@ -1,7 +1,7 @@
 -- The parts of a store, and how the commands of a talk move them, with the actors that are built so far.
 use Rattle.std.specs.Prelude.{◌≡◌, ◌⊎◌, ℕ, ◌+◌, ◌-◌, ◌≤◌, min, List, [], ◌∷◌, Option, None, IsSome}
 use Rattle.cache_model.specs.declared.commands.Command.{Command}
-use Rattle.cache_model.specs.declared.commands.Command.TheVariants.{Step, Sync, Stop, Stats, CompactFile}
+use Rattle.cache_model.specs.declared.commands.Command.TheVariants.{Step, Sync, Stop, Stats, CompactFile, CompactAll}
 use Rattle.cache_model.specs.declared.commands.StepKind.{StepKind}
 use Rattle.cache_model.specs.declared.commands.StepKind.TheVariants.{Index, Compact, Rotate}
 use Rattle.cache_model.specs.declared.entries.Change.{Change}
@@ -14,7 +14,7 @@ use Rattle.cache_model.specs.Plain.{Plain, effect_of}
 use Rattle.cache_model.specs.Lines.{LineMeaning, asks, refuses}
 use Rattle.cache_model.specs.Replies.{Response, replies, refused}
 use Rattle.store_trait.specs.Meaning.{Row, StoreFacts}
-use Rattle.soft_index.specs.Compacting.{CompactsBy, CompactsFile, CountsBy}
+use Rattle.soft_index.specs.Compacting.{CompactsAll, CompactsBy, CompactsFile, CountsBy, TurnsAll}
 use Rattle.soft_index.specs.Turns.{turns_for}
 use Rattle.cache_session.specs.Changing.{IsOrder}
 use Rattle.cache_session.specs.Turns.{figures_of}
@@ -28,7 +28,7 @@ pub record Pace : Type 0 where
 
 -- What commands and steps move of a store: how many requests to its index are queued, the file that is written, or none,
 -- and the file under compaction with the turns that were done, or none. Beside these, how many turns the lines that compact
--- one file took so far.
+-- files took so far.
 pub record Parts : Type 0 where
   pub queued : ℕ
   pub current : Option ℕ
@@ -105,6 +105,18 @@ pub record FileMoves (read : Image → Type 0) (pace : Pace) (file : ℕ) (given
   pub compacts : CompactsFile pace.queue files mid file turned turns (rows_of a) (rows_of b)
   pub took : b.turned ≡ a.turned + turns
 
+-- How the compaction of all files moves them: it ends a compaction that is under way, closes the current file, and then takes
+-- all turns of one over each file that is there. The files read so when it began, and so once the compaction that was under way
+-- had ended and all files were closed.
+pub record SweepMoves (read : Image → Type 0) (pace : Pace) (a b : Parts) : Type 0 where
+  pub files : Image
+  pub is_read : read files
+  pub mid : Image
+  pub mid_is_read : read mid
+  pub turns : ℕ
+  pub compacts : CompactsAll pace.queue files mid turns (rows_of a) (rows_of b)
+  pub took : b.turned ≡ a.turned + turns
+
 -- How a command with its reply moves the parts, where these files read so: by its changes, in an order of its keys. A sync
 -- leaves them. The reply to a step says what it did, that to `stats` what a count of the files gave, and that to the
 -- compaction of one file whether it could be compacted.
@@ -112,6 +124,7 @@ abbrev pub CommandMoves : (Image → Type 0) → Pace → Plain → Command → 
 CommandMoves read pace plain (Step kind) given a b = (turned : Turned) × (given ≡ reply.Turned turned) × ActorMoves read pace kind turned a b
 CommandMoves read pace plain Stats given a b = CountMoves read given a b
 CommandMoves read pace plain (CompactFile file) given a b = FileMoves read pace file given a b
+CommandMoves read pace plain CompactAll given a b = SweepMoves read pace a b
 CommandMoves read pace plain Sync given a b = b ≡ a
 CommandMoves read pace plain Stop given a b = b ≡ a
 CommandMoves read pace plain command given a b = (changes : List Change) × IsOrder (effect_of plain command) changes × ChangesMove pace.queue changes a b
@@ -136,4 +149,7 @@ pub record FollowsParts (pace : Pace) (facts : StoreFacts) : Type 0 where
   pub compacts : (files mid : Image) (file : ℕ) (turned : Turned) (turns : ℕ) (rows next : List Row) → facts.compacts files mid file turned turns rows next
       → RowsMove pace.queue (λ a b. CompactsFile pace.queue files mid file turned turns (rows_of a) (rows_of b) × (b.turned ≡ a.turned + turns)) rows next
   pub turns : (files mid : Image) (file : ℕ) (rows : List Row) → facts.turns files mid file rows ≡ turns_for files mid file rows
+  pub compacts_all : (files mid : Image) (turns : ℕ) (rows next : List Row) → facts.compacts_all files mid turns rows next
+      → RowsMove pace.queue (λ a b. CompactsAll pace.queue files mid turns (rows_of a) (rows_of b) × (b.turned ≡ a.turned + turns)) rows next
+  pub turns_all : (files mid : Image) (rows : List Row) (turns : ℕ) → facts.turns_all files mid rows turns → TurnsAll files mid rows turns
   pub steps : (files : Image) (kind : StepKind) (turned : Turned) (rows next : List Row) → facts.steps files kind turned rows next → RowsMove pace.queue (ActorMoves (λ image. image ≡ files) pace kind turned) rows next

@@ -54,7 +54,7 @@ PartsThrough read pace taken due plain (line ∷ lines) (response ∷ responses)
     × PartsThrough read pace (taken + due) (steps_behind pace.pump response) (after_answer plain (meaning_of line) response) lines responses d all b
 
 -- The rows of a store are those of parts that these answers and so many background steps came to from the opening on,
--- where these files read so. So many turns were taken for the lines that compact one file.
+-- where these files read so. So many turns were taken for the lines that compact files.
 pub record HasMoved (read : Image → Type 0) (pace : Pace) (plain : Plain) (lines : List (List ℕ)) (responses : List Response) (taken turned : ℕ) (rows : List Row) : Type 0 where
   pub parts : Parts
   pub is_rows : rows ≡ rows_of parts

@@ -148,7 +148,7 @@ EndsBy status.Spent course now = EndsAtSpent course now
 EndsBy status.LinesSpent course now = EndsTaken course now.host
 
 -- With these words of the talk, which have these commands more, its answer is in hand. So many turns were taken for the lines
--- that compact one file.
+-- that compact files.
 abbrev pub TellsMore : HostState → Course → Bool → Talk → List Command → ℕ → View → Type 0
 TellsMore from course ordered talk commands turned now =
     (left : List (List ℕ)) (said : Option (List ℕ)) (answered : List (List ℕ)) (responses : List Response) (ended : Bool)
@@ -159,7 +159,7 @@ TellsMore from course ordered talk commands turned now =
     → IsTelling from course ordered left (with_words talk answered responses ended) (asked_in course talk) now said
 
 -- what a command that was done, or refused for want of memory, leaves, where so many turns were taken before it for the lines
--- that compact one file
+-- that compact files
 abbrev pub DoesBy : Option Reply → HostState → Course → Bool → List (List ℕ) → Talk → Command → ℕ → View → View → Type 0
 DoesBy (Some reply) from course ordered left talk command turned old now =
     (turns : ℕ) × IsReply command (plain_reply [] (plain_of talk) command) (replies reply) × TellsMore from course ordered talk (command ∷ []) (turned + turns) now

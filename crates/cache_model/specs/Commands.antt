@@ -3,7 +3,7 @@ use Rattle.std.specs.Prelude.{◌<◌, ◌^◌}
 use Rattle.cache_model.specs.declared.entries.Lifespan.{Lifespan}
 use Rattle.cache_model.specs.declared.entries.Lifespan.TheVariants.{Endless, Of}
 use Rattle.cache_model.specs.declared.commands.Command.{Command}
-use Rattle.cache_model.specs.declared.commands.Command.TheVariants.{At, Put, PutAbsent, Replace, ReplaceIf, Evict, CompactAll, Export}
+use Rattle.cache_model.specs.declared.commands.Command.TheVariants.{At, Put, PutAbsent, Replace, ReplaceIf, Evict, Export}
 
 -- a lifespan is endless, or below 2^61
 abbrev pub IsLifespan : Lifespan → Type 0
@@ -22,6 +22,5 @@ IsCommand command = Unit {0}
 -- the commands that lines can ask for
 abbrev pub HasLine : Command → Type 0
 HasLine (Evict key) = ⊥
-HasLine CompactAll = ⊥
 HasLine Export = ⊥
 HasLine command = Unit {0}

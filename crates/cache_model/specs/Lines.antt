@@ -9,7 +9,7 @@ use Rattle.std.specs.Str.Parse.{digits_value}
 use Rattle.cache_model.specs.declared.entries.Lifespan.{Lifespan}
 use Rattle.cache_model.specs.declared.entries.Lifespan.TheVariants.{Endless, Of}
 use Rattle.cache_model.specs.declared.commands.Command.{Command}
-use Rattle.cache_model.specs.declared.commands.Command.TheVariants.{At, Put, PutAbsent, Replace, ReplaceIf, Get, Has, Remove, RemoveIf, Size, Keys, Clear, Step, Evict, Sync, CompactFile, Stats, Stop, Halt}
+use Rattle.cache_model.specs.declared.commands.Command.TheVariants.{At, Put, PutAbsent, Replace, ReplaceIf, Get, Has, Remove, RemoveIf, Size, Keys, Clear, Step, Evict, Sync, CompactAll, CompactFile, Stats, Stop, Halt}
 use Rattle.cache_model.specs.declared.commands.StepKind.{StepKind}
 use Rattle.cache_model.specs.declared.commands.StepKind.TheVariants.{Index, Compact, Rotate}
 use Rattle.cache_model.specs.Replies.{Refusal, long, syntax, key_length, value_length, ttl}
@@ -91,6 +91,11 @@ takes_moment make = takes_below (2 ^ 61) make
 abbrev pub takes_file : (ℕ → Command) → Arguments
 takes_file make = takes_below (2 ^ 32) make
 
+-- no words, or such ones
+abbrev pub takes_none_or : Command → Arguments → Arguments
+takes_none_or command arguments [] = Some command
+takes_none_or command arguments (word ∷ words) = arguments (word ∷ words)
+
 -- a key: `K`
 abbrev pub takes_key : (List ℕ → Command) → Arguments
 takes_key make [] = None
@@ -141,7 +146,7 @@ command_rows =
     ∷ (codes "clear", takes_nothing Clear)
     ∷ (codes "step", takes_step)
     ∷ (codes "sync", takes_nothing Sync)
-    ∷ (codes "compact", takes_file CompactFile)
+    ∷ (codes "compact", takes_none_or CompactAll (takes_file CompactFile))
     ∷ (codes "stats", takes_nothing Stats)
     ∷ (codes "stop", takes_nothing Stop)
     ∷ (codes "halt", takes_nothing Halt)

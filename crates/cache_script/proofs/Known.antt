@@ -4,11 +4,11 @@ use Rattle.std.specs.Prelude.{IfOk, if◌then◌else◌, option_map, option_and_
 use Rattle.std.specs.Map.{lookup}
 use Rattle.std.specs.Str.{bytes_eq}
 use Rattle.cache_model.specs.declared.commands.Command.{Command}
-use Rattle.cache_model.specs.declared.commands.Command.TheVariants.{At, Put, PutAbsent, Replace, ReplaceIf, Get, Has, Remove, RemoveIf, Size, Keys, Clear, Step, Sync, CompactFile, Stats, Stop, Halt}
+use Rattle.cache_model.specs.declared.commands.Command.TheVariants.{At, Put, PutAbsent, Replace, ReplaceIf, Get, Has, Remove, RemoveIf, Size, Keys, Clear, Step, Sync, CompactAll, CompactFile, Stats, Stop, Halt}
 use Rattle.cache_model.specs.declared.entries.Lifespan.{Lifespan}
 use Rattle.cache_model.specs.Replies.{Refusal}
 use Rattle.cache_model.specs.Tokens.{token_value}
-use Rattle.cache_model.specs.Lines.{number_of, ttl_of, Arguments, takes_nothing, takes_below, takes_key, takes_key_value, takes_entry, takes_exchange, takes_step, step_rows, command_rows, row_command, words_command, words_of, limit_refusal, LineMeaning, asks, refuses, unless_refused, within_limits, content_meaning}
+use Rattle.cache_model.specs.Lines.{number_of, ttl_of, Arguments, takes_nothing, takes_below, takes_none_or, takes_key, takes_key_value, takes_entry, takes_exchange, takes_step, step_rows, command_rows, row_command, words_command, words_of, limit_refusal, LineMeaning, asks, refuses, unless_refused, within_limits, content_meaning}
 use Rattle.cache_script.specs.declared.faults.LineFault.{LineFault}
 use Rattle.cache_script.specs.declared.faults.LineFault.TheVariants.{Memory}
 use Rattle.cache_script.specs.Reading.{Reads}
@@ -46,6 +46,10 @@ below_known end make known (word ∷ []) command h =
     let some = then_some (λ n. if nat_lt n end then Some (make n) else None) (number_of word) command h in
     known_as (make some.0) command (if_some (nat_lt some.0 end) (make some.0) command some.1) (known some.0)
 below_known end make known (word ∷ more ∷ words) command h = cc
+
+none_or_known : (made : Command) (arguments : Arguments) → HasLine made → GivesKnown arguments → GivesKnown (takes_none_or made arguments)
+none_or_known made arguments known others [] command h = known_as made command (same_some made command h) known
+none_or_known made arguments known others (word ∷ words) command h = others (word ∷ words) command h
 
 key_known : (make : List ℕ → Command) → ((k : List ℕ) → HasLine (make k)) → GivesKnown (takes_key make)
 key_known make known [] command h = cc
@@ -94,7 +98,7 @@ by_rows (row ∷ rows) known name words command h = by (bytes_eq name row.0) (by
 rows_known : (name : List ℕ) → GivesKnown (row_command command_rows name)
 rows_known name =
     by_rows command_rows
-    (below_known (2 ^ 61) At (λ n. tt), (entry_known Put (λ k v l. tt), (entry_known PutAbsent (λ k v l. tt), (entry_known Replace (λ k v l. tt), (exchange_known ReplaceIf (λ k o v l. tt), (key_known Get (λ k. tt), (key_known Has (λ k. tt), (key_known Remove (λ k. tt), (key_value_known RemoveIf (λ k v. tt), (nothing_known Size tt, (nothing_known Keys tt, (nothing_known Clear tt, (step_known, (nothing_known Sync tt, (below_known (2 ^ 32) CompactFile (λ n. tt), (nothing_known Stats tt, (nothing_known Stop tt, (nothing_known Halt tt, tt))))))))))))))))))
+    (below_known (2 ^ 61) At (λ n. tt), (entry_known Put (λ k v l. tt), (entry_known PutAbsent (λ k v l. tt), (entry_known Replace (λ k v l. tt), (exchange_known ReplaceIf (λ k o v l. tt), (key_known Get (λ k. tt), (key_known Has (λ k. tt), (key_known Remove (λ k. tt), (key_value_known RemoveIf (λ k v. tt), (nothing_known Size tt, (nothing_known Keys tt, (nothing_known Clear tt, (step_known, (nothing_known Sync tt, (none_or_known CompactAll (takes_below (2 ^ 32) CompactFile) tt (below_known (2 ^ 32) CompactFile (λ n. tt)), (nothing_known Stats tt, (nothing_known Stop tt, (nothing_known Halt tt, tt))))))))))))))))))
     name
 
 words_known : (words : List (List ℕ)) (command : Command) → words_command words ≡ Some command → HasLine command

@@ -3,7 +3,7 @@ use Rattle.std.specs.Prelude.{ℕ, List}
 use Rattle.cache_model.specs.declared.entries.Lifespan.{Lifespan}
 use Rattle.cache_model.specs.declared.commands.Command.{Command}
 use Rattle.cache_model.specs.declared.commands.Command.TheVariants as command
-use Rattle.cache_model.specs.Lines.{Arguments, takes_nothing, takes_moment, takes_file, takes_key, takes_key_value, takes_entry, takes_exchange, takes_step}
+use Rattle.cache_model.specs.Lines.{Arguments, takes_nothing, takes_moment, takes_file, takes_none_or, takes_key, takes_key_value, takes_entry, takes_exchange, takes_step}
 use Rattle.cache_script.specs.declared.rows.PutKind.{PutKind}
 use Rattle.cache_script.specs.declared.rows.PutKind.TheVariants.{Put, PutAbsent, Replace}
 use Rattle.cache_script.specs.declared.rows.KeyKind.{KeyKind}
@@ -38,7 +38,7 @@ sole_command Halt = command.Halt
 -- how the words behind a name are read
 abbrev pub row_arguments : Row → Arguments
 row_arguments row.Moment = takes_moment command.At
-row_arguments row.File = takes_file command.CompactFile
+row_arguments row.Compact = takes_none_or command.CompactAll (takes_file command.CompactFile)
 row_arguments (row.Put kind) = takes_entry (put_command kind)
 row_arguments row.Exchange = takes_exchange command.ReplaceIf
 row_arguments (row.Key kind) = takes_key (key_command kind)

@@ -1,11 +1,11 @@
 // One line of a script, as a command.
 ghost use Rattle.std.specs.Prelude.{◌≡◌, option_map, IfOk, IfErr, List, ℕ, Some};
 ghost use Rattle.cache_model.specs.Commands.{IsCommand, HasLine};
-ghost use Rattle.cache_model.specs.Lines.{content_meaning, within_limits, ttl_refusal, takes_nothing, takes_moment, takes_file, takes_key, takes_key_value, takes_entry, takes_exchange, takes_step};
+ghost use Rattle.cache_model.specs.Lines.{content_meaning, within_limits, ttl_refusal, takes_nothing, takes_moment, takes_file, takes_none_or, takes_key, takes_key_value, takes_entry, takes_exchange, takes_step};
 ghost use Rattle.cache_model.specs.Plain.{Plain};
 ghost use Rattle.cache_model.specs.Replies.{refused};
 ghost use Rattle.cache_model.specs.Transcript.{Answers};
-ghost use Rattle.cache_model.specs.declared.commands.Command.TheVariants.{At, CompactFile, ReplaceIf, RemoveIf};
+ghost use Rattle.cache_model.specs.declared.commands.Command.TheVariants.{At, CompactAll, CompactFile, ReplaceIf, RemoveIf};
 ghost use Rattle.cache_script.specs.Reading.{Reads};
 ghost use Rattle.cache_script.specs.Refusals.{refusal_of};
 ghost use Rattle.cache_script.specs.Rows.{put_command, key_command, sole_command, row_arguments};
@@ -45,7 +45,7 @@ fn read_row(alloc: Global, row: Row, words: &mut Words<'_>) -> Result<Command, L
 {
     match row {
         Row::Moment => read_moment(words),
-        Row::File => read_file(words),
+        Row::Compact => read_compaction(words),
         Row::Put(kind) => read_put(alloc, kind, words),
         Row::Exchange => read_exchange(alloc, words),
         Row::Key(kind) => read_key(alloc, kind, words),
@@ -99,6 +99,18 @@ fn read_file(words: &mut Words<'_>) -> Result<Command, LineFault>
     match u32::try_from(number) {
         Ok(file) if words.is_done() => Ok(Command::CompactFile(file)),
         Ok(_) | Err(_) => Err(LineFault::Syntax),
+    }
+}
+
+// The command that compacts all files, or one.
+fn read_compaction(words: &mut Words<'_>) -> Result<Command, LineFault>
+    ensures read { Reads (within_limits (takes_none_or CompactAll (takes_file CompactFile) words.old)) result }
+    ensures limits { IfOk result IsCommand }
+{
+    if words.is_done() {
+        Ok(Command::CompactAll)
+    } else {
+        read_file(words)
     }
 }
 

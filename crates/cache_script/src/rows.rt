@@ -83,8 +83,8 @@ impl SoleKind {
 pub enum Row {
     /// A moment.
     Moment,
-    /// The number of a file.
-    File,
+    /// Nothing, or the number of a file.
+    Compact,
     /// A key, a value and what lifespan it has.
     Put(PutKind),
     /// A key, an old value, a new one and what lifespan it has.
@@ -149,7 +149,7 @@ pub fn row_of(name: &[u8]) -> Option<Row>
     } else if name == b"sync".as_slice() {
         Some(Row::Sole(SoleKind::Sync))
     } else if name == b"compact".as_slice() {
-        Some(Row::File)
+        Some(Row::Compact)
     } else if name == b"stats".as_slice() {
         Some(Row::Sole(SoleKind::Stats))
     } else if name == b"stop".as_slice() {

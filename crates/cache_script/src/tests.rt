@@ -13,7 +13,7 @@ use std::process::Abort;
 use std::test::Fail;
 
 /// Lines without keys, and what is read of them.
-const SOLE_LINES: [(&str, &str); 56] = [
+const SOLE_LINES: [(&str, &str); 58] = [
     ("at 0", "Ok(At(0))"),
     ("at 00000000000000000007", "Ok(At(7))"),
     ("at 000000000000000000007", "Err(Syntax)"),
@@ -30,11 +30,14 @@ const SOLE_LINES: [(&str, &str); 56] = [
     ("sync", "Ok(Sync)"),
     ("sync x", "Err(Syntax)"),
     ("sync ", "Err(Syntax)"),
+    ("compact", "Ok(CompactAll)"),
+    ("compact ", "Err(Syntax)"),
     ("compact 0", "Ok(CompactFile(0))"),
     ("compact 00000000000000000007", "Ok(CompactFile(7))"),
     ("compact 4294967295", "Ok(CompactFile(4294967295))"),
     ("compact 4294967296", "Err(Syntax)"),
     ("compact 18446744073709551616", "Err(Syntax)"),
+    ("compact -1", "Err(Syntax)"),
     ("compact 1 2", "Err(Syntax)"),
     ("compact 1 ", "Err(Syntax)"),
     ("compact a", "Err(Syntax)"),
@@ -56,7 +59,6 @@ const SOLE_LINES: [(&str, &str); 56] = [
     ("step compac", "Err(Syntax)"),
     ("step Compact", "Err(Syntax)"),
     ("step compact x", "Err(Syntax)"),
-    ("compact", "Err(Syntax)"),
     ("step evict", "Err(Syntax)"),
     ("step reap", "Err(Syntax)"),
     ("stop", "Ok(Stop)"),

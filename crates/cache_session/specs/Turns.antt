@@ -19,9 +19,10 @@ use Rattle.cache_model.specs.Files.{Image}
 use Rattle.cache_model.specs.Plain.{Plain, effect_of, plain_after, plain_reply, moment_after}
 use Rattle.cache_model.specs.Changes.{changes_by}
 use Rattle.cache_disk.specs.State.{HostState, Silent}
+use Rattle.cache_disk.specs.Calls.{AllLeft}
 use Rattle.store_trait.specs.Meaning.{Reading, Content, read_in, IsAlike, Row, StoreFacts, StoreState}
 use Rattle.store_trait.specs.Keeping.{Leaves, IsOld, IsNew, IsOldWhole, IsNewWhole, Opens, IsKept, SameStore, IsOnly}
-use Rattle.store_trait.specs.Calls.{IsReady, IsNumbered, DrawsNone, MayHaveRead, CompactsIn}
+use Rattle.store_trait.specs.Calls.{IsReady, IsNumbered, DrawsNone, MayHaveRead, CompactsAllIn, CompactsIn}
 use Rattle.cache_session.specs.declared.session.Session.{Session}
 use Rattle.cache_session.specs.declared.event.Event.{Event}
 use Rattle.cache_session.specs.declared.event.Event.TheVariants.{Client, Actor}
@@ -46,7 +47,6 @@ command_of (Actor kind) = Step kind
 
 -- the commands that a session does
 abbrev pub IsBuilt : Command → Type 0
-IsBuilt CompactAll = ⊥
 IsBuilt Export = ⊥
 IsBuilt command = Unit {0}
 
@@ -79,13 +79,14 @@ pub record IsContentAfter (f : StoreFacts) (moment turn : ℕ) (changes : List C
   pub at_marks : (key : List ℕ) (r : Reading) (mark : ℕ) → new.may turn key r mark
       → IsAlike (f.forgets key) mark (read_in new.content key) (read_in (after_all changes old.content) key)
 
--- How a call goes about: by its changes alone, by a sync, by a count of the files, by the compaction of one file, or by a
--- step.
+-- How a call goes about: by its changes alone, by a sync, by a count of the files, by the compaction of one file or of all
+-- of them, or by a step.
 pub data Way : Type 0 where
   by_changes : Way
   by_sync : Way
   by_count : Way
   by_compaction : (file : ℕ) → Way
+  by_sweep : Way
   by_step : (kind : StepKind) → Way
 
 -- how changes that are written in turn move the parts of a store
@@ -93,12 +94,13 @@ abbrev pub MovesBy : (Change → List Row → List Row → Type 0) → List Chan
 MovesBy moves [] a b = b ≡ a
 MovesBy moves (change ∷ changes) a b = (c : List Row) × moves change a c × MovesBy moves changes c b
 
--- how a call moves them; a count, a compaction and a step say it with their answers
+-- how a call moves them; a count, compactions and a step say it with their answers
 abbrev pub PartsBy : Way → StoreFacts → List Change → List Row → List Row → Type 0
 PartsBy by_changes f changes a b = MovesBy f.moves changes a b
 PartsBy by_sync f changes a b = f.empties a b
 PartsBy by_count f changes a b = Unit {0}
 PartsBy (by_compaction file) f changes a b = Unit {0}
+PartsBy by_sweep f changes a b = Unit {0}
 PartsBy (by_step kind) f changes a b = Unit {0}
 
 -- they stay, or room was made in them
@@ -110,18 +112,21 @@ abbrev pub files_of : StepKind → ℕ
 files_of step.Compact = 1
 files_of kind = 0
 
--- how many files a call makes at the most, beside those for its changes and for the compaction of one file
+-- how many files a call makes at the most, beside those for its changes and for compactions of named or all files
 abbrev pub files_in : Way → ℕ
 files_in by_changes = 0
 files_in by_sync = 0
 files_in by_count = 0
 files_in (by_compaction file) = 0
+files_in by_sweep = 0
 files_in (by_step kind) = files_of kind
 
 -- A call makes one file at the most for each of so many changes, and so many beside. The compaction of one file makes no more
--- than it takes turns, where the files read so when the compaction that was under way had ended.
+-- than it takes turns, where the files read so when the compaction that was under way had ended, and so does that of all
+-- files.
 abbrev pub MakesBy : Way → StoreFacts → StoreFacts → HostState → HostState → ℕ → Type 0
 MakesBy (by_compaction file) f g before after count = (mid : Image) × MayHaveRead before after mid × (g.made ≤ f.made + count + f.turns before.files mid file f.parts)
+MakesBy by_sweep f g before after count = (mid : Image) × (turns : ℕ) × MayHaveRead before after mid × f.turns_all before.files mid f.parts turns × (g.made ≤ f.made + count + turns)
 MakesBy way f g before after count = g.made ≤ f.made + count + files_in way
 
 -- Nothing was changed: neither what the content shows, nor what may be left, nor a number.
@@ -189,11 +194,13 @@ abbrev pub figures_of : ℕ × ℕ × ℕ → Figures
 figures_of count = record { files = count.0; bytes = count.1; live = count.2; pending = 0; held = 0 }
 
 -- What the store itself answers: a step is answered with what it did, `stats` with the figures of the files as they read, and
--- the compaction of a file with whether it was one that could be compacted. The parts were moved so.
+-- the compaction of a file with whether it was one that could be compacted. The parts were moved so. Behind the compaction of
+-- all files each image is what the store leaves by it.
 abbrev pub IsStoreReply : Command → StoreFacts → StoreFacts → HostState → HostState → Reply → Type 0
 IsStoreReply (Step kind) f g before after answer = (turned : Turned) × (answer ≡ reply.Turned turned) × StepMoves kind f before.files turned f.parts g.parts
 IsStoreReply Stats f g before after answer = (count : ℕ × ℕ × ℕ) × (answer ≡ reply.Stats (figures_of count)) × f.counts before.files count f.parts g.parts
 IsStoreReply (CompactFile file) f g before after answer = (turned : Turned) × (answer ≡ reply.Turned turned) × CompactsIn file f g before after turned
+IsStoreReply CompactAll f g before after answer = CompactsAllIn f g before after × AllLeft after (f.sweeps before.files)
 IsStoreReply command f g before after answer = Unit {0}
 
 -- how a command goes about
@@ -202,10 +209,11 @@ way_of Sync = by_sync
 way_of Stop = by_sync
 way_of Stats = by_count
 way_of (CompactFile file) = by_compaction file
+way_of CompactAll = by_sweep
 way_of (Step kind) = by_step kind
 way_of command = by_changes
 
--- how many files a command makes at the most, beside those for its changes and for the compaction of one file
+-- how many files a command makes at the most, beside those for its changes and for compactions of named or all files
 abbrev pub files_by : Command → ℕ
 files_by command = files_in (way_of command)
 

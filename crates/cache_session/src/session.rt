@@ -7,7 +7,7 @@ ghost use Rattle.cache_session.specs.Turns.{store_of, moment_of, is_broken, comm
 
 use crate::Event;
 use crate::conditions::{put_absent, remove, remove_if, replace, replace_if};
-use crate::files::{compact_file, stats};
+use crate::files::{compact_all, compact_file, stats};
 use crate::reads::{get, has};
 use crate::walks::{clear, keys, size};
 use crate::writes::{put, step, stop, sync};
@@ -132,7 +132,8 @@ impl<S> Session<S> {
             Command::Halt => Ok(Reply::Halted),
             Command::Stats => stats(store, host, moment),
             Command::CompactFile(file) => compact_file(store, host, file, moment),
-            Command::CompactAll | Command::Export => unreachable!(),
+            Command::CompactAll => compact_all(store, host, moment),
+            Command::Export => unreachable!(),
         }
     }
 }

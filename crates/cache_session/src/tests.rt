@@ -33,6 +33,7 @@ enum Verb {
     Sync,
     Stats,
     CompactFile(u32),
+    CompactAll,
     Stop,
     Halt,
 }
@@ -77,7 +78,7 @@ const LIFESPANS: [Row; 9] = [
 ];
 
 /// What settles the store, and what leaves it.
-const ENDS: [Row; 11] = [
+const ENDS: [Row; 12] = [
     (Verb::Put, "k", "v", ""),
     (Verb::Step(StepKind::Index), "-", "", ""),
     (Verb::Step(StepKind::Compact), "-", "", ""),
@@ -85,6 +86,7 @@ const ENDS: [Row; 11] = [
     (Verb::Evict, "k", "", ""),
     (Verb::Stats, "-", "", ""),
     (Verb::CompactFile(1), "-", "", ""),
+    (Verb::CompactAll, "-", "", ""),
     (Verb::Sync, "-", "", ""),
     (Verb::Get, "k", "", ""),
     (Verb::Stop, "-", "", ""),
@@ -92,7 +94,7 @@ const ENDS: [Row; 11] = [
 ];
 
 /// What a mix of commands is drawn from.
-const MIX: [Verb; 19] = [
+const MIX: [Verb; 20] = [
     Verb::Put,
     Verb::Put,
     Verb::PutFor(3),
@@ -112,6 +114,7 @@ const MIX: [Verb; 19] = [
     Verb::Sync,
     Verb::Stats,
     Verb::CompactFile(1),
+    Verb::CompactAll,
 ];
 
 const KEYS: [&str; 6] = ["a", "b", "ab", "c", "\0", "key"];
@@ -158,6 +161,7 @@ fn command_of(verb: Verb, key: Key, value: Value, old: Value) -> Command
         Verb::Sync => Command::Sync,
         Verb::Stats => Command::Stats,
         Verb::CompactFile(file) => Command::CompactFile(file),
+        Verb::CompactAll => Command::CompactAll,
         Verb::Stop => Command::Stop,
         Verb::Halt => Command::Halt,
     }

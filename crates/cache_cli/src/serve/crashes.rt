@@ -6,7 +6,7 @@ ghost use Rattle.host_memory.specs.Files.{are_named_apart};
 
 use super::plain_reader::Records;
 use super::tests::{
-    FIRST, NamedBytes, ONE_PUT, SECOND, THIRD, directory_of, name_of, serve_script,
+    FIRST, FOURTH, NamedBytes, ONE_PUT, SECOND, THIRD, directory_of, name_of, serve_script,
 };
 use super::with_settings::{serve_lines, settings_of};
 use cache_model::{PlainCache, Prefix, Status};
@@ -159,7 +159,7 @@ const TWICE: Scenario = Scenario {
     left: &[THIRD],
 };
 
-// Files are named to be compacted: one whose compaction is under way, one that is there, and one that isn't.
+// Files are named to be compacted: one whose compaction is under way, one that is there, and one that isn't. Then all are.
 const NAMED: Scenario = Scenario {
     file: None,
     stored: &[],
@@ -176,9 +176,10 @@ const NAMED: Scenario = Scenario {
         (1003, "remove c"),
         (1003, "compact 2"),
         (1003, "compact 2"),
+        (1003, "compact"),
     ],
     pump: 0,
-    left: &[THIRD],
+    left: &[FOURTH],
 };
 
 // The plain map with what is said of the lines on it.

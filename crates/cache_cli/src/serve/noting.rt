@@ -91,6 +91,10 @@ impl<H: Host> FileStore<H> for NotingStore {
     fn compact_file(&mut self, host: &mut H, file: u32, moment: u64) -> Result<Turned, StoreFault> {
         self.store.compact_file(host, file, moment)
     }
+
+    fn compact_all(&mut self, host: &mut H, moment: u64) -> Result<(), StoreFault> {
+        self.store.compact_all(host, moment)
+    }
 }
 
 // What a run is given: how many steps follow an answer, how many are taken before one is refused, and the script. What

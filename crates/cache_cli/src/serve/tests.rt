@@ -83,6 +83,8 @@ pub(super) const SECOND: &str = "s0-0000000002.log";
 
 pub(super) const THIRD: &str = "s0-0000000003.log";
 
+pub(super) const FOURTH: &str = "s0-0000000004.log";
+
 const LAST: &str = "s0-4294967294.log";
 
 // Lines over an empty directory.

@@ -187,7 +187,7 @@ const DEAD: [Run; 2] = [
 ];
 
 // Runs that compact files line by line.
-const COMPACTED: [Run; 8] = [
+const COMPACTED: [Run; 9] = [
     // A turn is idle where there is no file, and where only the one that is written has few live bytes.
     (
         true,
@@ -243,6 +243,13 @@ const COMPACTED: [Run; 8] = [
         true,
         "put a 1\nstep rotate\nput a 2\nput b 3\nstep rotate\nstep compact\ncompact 2\nget a\nget b\nstep index\nstep index\nstep index\nstep compact\nkeys\nstats\n",
         "opened 1000\nok\ndone\nok\nok\ndone\ndone\ndone\nvalue 2\nvalue 3\ndone\ndone\nidle\nidle\nkeys a b\nstats files 1 bytes 72 live 50 pending 0 held 0\nstopped\n",
+        &[(THIRD, STAMP_AND_COPIES)],
+    ),
+    // All files are, the one that was written too. What two requests wait for are the records of the last one.
+    (
+        true,
+        "compact\nput a 1\nstep rotate\nput a 2\nput b 3\ncompact\nget a\nget b\nstep index\nstep index\nstep index\nstep compact\nkeys\nstats\n",
+        "opened 1000\ncompacted\nok\ndone\nok\nok\ncompacted\nvalue 2\nvalue 3\ndone\ndone\nidle\nidle\nkeys a b\nstats files 1 bytes 72 live 50 pending 0 held 0\nstopped\n",
         &[(THIRD, STAMP_AND_COPIES)],
     ),
 ];
