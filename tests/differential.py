@@ -17,7 +17,7 @@ KEYS = [b"a", b"b", b"c", b"\x00", b"%", b"two words", b"\xff\xfe", b"k" * 1024]
 VALUES = [b"", b"1", b"2", b" ", b"%.", b"\r\n", bytes(range(256))]
 
 # How the lines begin whose commands have other names here.
-BEGINNINGS = {"index": b"step index", "rotate": b"step rotate", "turn": b"step compact"}
+BEGINNINGS = {"index": b"step index", "rotate": b"step rotate", "turn": b"step compact", "sweep": b"compact"}
 
 # Lines that are refused whatever stands before them, and how.
 REFUSED = [
@@ -37,7 +37,7 @@ REFUSED = [
     (b"step  rotate", b"refused syntax"),
     (b"step flush", b"refused syntax"),
     (b"stats x", b"refused syntax"),
-    (b"compact", b"refused syntax"),
+    (b"compact ", b"refused syntax"),
     (b"compact 4294967296", b"refused syntax"),
     (b"compact -1", b"refused syntax"),
     (b"export", b"refused syntax"),
@@ -151,6 +151,9 @@ class Plain:
     def compact(self, number):
         return self.parts.compact_file(number, self.moment), {}
 
+    def sweep(self):
+        return self.parts.compact_all(self.moment), {}
+
     def stop(self):
         return b"stopped", {}
 
@@ -202,7 +205,7 @@ class Drawn:
         if name == "compact":
             number = plain.files.draw_number(self.choice)
             return [self.choice.choice([b"%d", b"%d", b"%020d"]) % number], [number]
-        if name in ("size", "keys", "clear", "sync", "stats", "index", "rotate", "turn", "stop", "halt"):
+        if name in ("size", "keys", "clear", "sync", "stats", "index", "rotate", "turn", "sweep", "stop", "halt"):
             return [], []
         given = [self.key()]
         if name in ("replaceif", "removeif"):
@@ -222,7 +225,7 @@ class Drawn:
             return self.choice.choice(["size", "keys", "clear"])
         if drawn < 0.3:
             steps = ["index", "index", "index", "rotate", "rotate", "turn", "turn", "turn", "turn"]
-            return self.choice.choice(["sync", "sync", "stats", "stats", *steps, "compact", "compact"])
+            return self.choice.choice(["sync", "sync", "stats", "stats", *steps, "compact", "compact", "sweep"])
         kept = ["put", "putabsent", "replace", "replaceif", "get", "has", "remove", "removeif", "at"]
         return self.choice.choice(kept)
 

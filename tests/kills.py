@@ -30,7 +30,7 @@ def puts_of(round):
 
 def lines_of(folder, puts, choice, settings):
     """The lines of some puts, each with its answer and the put that it makes, if it makes one. There are lines `sync`,
-    `step index`, `step rotate`, `step compact` and `compact N` between them."""
+    `step index`, `step rotate`, `step compact`, `compact N` and `compact` between them."""
     lines, files = [], support.Files(folder, settings)
     parts = support.Parts(settings, files)
     for put in puts:
@@ -38,13 +38,15 @@ def lines_of(folder, puts, choice, settings):
         parts.change(*put, MOMENT)
         parts.answered(MOMENT)
         while choice.random() < 0.15:
-            kind = choice.choice(["sync", "sync", "index", "rotate", "rotate", "compact", "compact", "file"])
+            kind = choice.choice(["sync", "sync", "index", "rotate", "rotate", "compact", "compact", "file", "all"])
             if kind == "sync":
                 files.seal(MOMENT)
                 lines.append((b"sync", b"ok", None))
             elif kind == "file":
                 number = files.draw_number(choice)
                 lines.append((b"compact %d" % number, parts.compact_file(number, MOMENT), None))
+            elif kind == "all":
+                lines.append((b"compact", parts.compact_all(MOMENT), None))
             else:
                 lines.append((b"step %s" % kind.encode(), parts.step(kind, MOMENT), None))
             parts.answered(MOMENT)

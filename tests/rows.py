@@ -323,6 +323,45 @@ def test_files_that_are_named_beside_a_compaction(folder):
     check_files(folder, {3: 1536, 4: 3036, 6: 37})
 
 
+def test_compaction_of_all_files(folder):
+    """All files are compacted, the one that was written too: what is left are the newest records, in one new file. The
+    last of them had two records, so two requests wait for the index then."""
+    set_folder(folder, "pump = 0\n")
+    check_answers(folder, 1000, [
+        (b"compact", "compacted"),
+        (b"stats", counts(0, 0, 0)),
+        (b"put a 1", "ok"),
+        (b"put b 2", "ok"),
+        (b"put a 3", "ok"),
+        (b"step rotate", "done"),
+        (b"put c 4", "ok"),
+        (b"remove b", "ok"),
+        (b"compact", "compacted"),
+        (b"step index", "done"),
+        (b"step index", "done"),
+        (b"step index", "idle"),
+        (b"stats", counts(1, 84, 62)),
+        (b"get a", "value 3"),
+        (b"get b", "none"),
+        (b"keys", "keys a c"),
+    ])
+    check_files(folder, {3: 84})
+    check_answers(folder, 1000, [(b"compact", "compacted"), (b"get a", "value 3"), (b"get b", "none"), (b"get c", "value 4")])
+    check_files(folder, {4: 74})
+    check_answers(folder, 1000, [(b"keys", "keys a c")])
+
+
+def test_compaction_of_all_files_beside_one(folder):
+    """The compaction that is under way is ended first: its copies are in a file that is compacted too. Nothing is under way
+    behind the line, and what it says is sealed."""
+    set_folder(folder, "pump = 0\nsync_writes = false\n")
+    script = b"put a 1\nput b 2\nput a 3\nstep rotate\nput a 4\nstep compact\nstep compact\ncompact\nstep compact\nstats\nhalt\n"
+    answers = ["opened 1000", "ok", "ok", "ok", "done", "ok", "done", "done", "compacted", "idle", counts(1, 62, 50), "halted"]
+    check_words(["--at", "1000"], folder, script, DONE, answers)
+    check_files(folder, {3: 62})
+    check_answers(folder, 1000, [(b"get a", "value 4"), (b"get b", "value 2")])
+
+
 def test_removal_of_one_hash(folder):
     """A key that was removed isn't there, and another one with the same hash is."""
     set_folder(folder, "hash_bits = 0\n")

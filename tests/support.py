@@ -215,6 +215,17 @@ class Parts:
         self.end(moment)
         return b"done"
 
+    def compact_all(self, moment):
+        """Ends the compaction that is under way, closes the current file, and takes all turns of one of each file that is
+        there then. It gives the answer."""
+        self.end(moment)
+        self.files.rotate(moment)
+        self.waiting = 0
+        for number in sorted(self.files.sizes):
+            self.begin(number)
+            self.end(moment)
+        return b"compacted"
+
     def count(self):
         """The files were counted: nothing waits for the index then."""
         self.waiting = 0
